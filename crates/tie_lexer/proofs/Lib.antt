@@ -1,0 +1,10 @@
+pub mod Marks
+pub mod Literals
+pub mod Told
+pub mod Within
+pub mod Fronts
+pub mod Law
+pub mod Total
+pub mod Standing
+pub mod Longest
+pub mod Alone

@@ -1,0 +1,14 @@
+pub mod Lists
+pub mod Runs
+pub mod Sums
+pub mod Rounds
+pub mod Reached
+pub mod Blocks
+pub mod Clocks
+pub mod Strict
+pub mod Room
+pub mod Bound
+pub mod MachineLemmas
+pub mod Rows
+pub mod Moves
+pub mod TwoRuns

@@ -1,0 +1,48 @@
+ghost use Rattle.std.specs.Prelude.{◌≡◌, ◌<◌, IfOk, length, string_bytes};
+ghost use Rattle.tie_top.specs.Printing.{line_of, hex_rule_word};
+
+use crate::hexadecimal::HexRule;
+use crate::refusal::Refusal;
+use std::alloc::{AllocError, Global};
+
+/// The line of a refusal, with its LF.
+pub fn line_of(alloc: Global, refusal: &Refusal) -> Result<String, AllocError>
+    ensures text { IfOk result (λ line. string_bytes line ≡ line_of refusal.now) }
+    ensures some { IfOk result (λ line. 0 < length (string_bytes line)) }
+{
+    match refusal {
+        Refusal::Usage { word } => format!(in alloc; "usage: word {word}\n"),
+        Refusal::ReadFault { name } => {
+            let name = name.as_str();
+            format!(in alloc; "read fault: {name}\n")
+        }
+        Refusal::TooLong { name } => {
+            let name = name.as_str();
+            format!(in alloc; "too long: {name}\n")
+        }
+        Refusal::TextRefused { name, rule, place } => {
+            hex_line(alloc, name.as_str(), *rule, *place)
+        }
+        Refusal::NoMemory => String::from_str(alloc, "no memory\n"),
+    }
+}
+
+fn hex_line(alloc: Global, name: &str, rule: HexRule, place: u32) -> Result<String, AllocError>
+    ensures { IfOk result (λ line. string_bytes line ≡ line_of (Refusal.TextRefused name.now rule place)) }
+{
+    let rule = hex_rule_word(rule);
+    let mut line = format!(in alloc; "hex refused: {name}: ")?;
+    line.push_str(rule)?;
+    write!(line, " at {place}\n")?;
+    Ok(line)
+}
+
+fn hex_rule_word(rule: HexRule) -> &'static str
+    ensures { result.now ≡ hex_rule_word rule }
+{
+    match rule {
+        HexRule::BadHex => "BadHex",
+        HexRule::OddHex => "OddHex",
+        HexRule::LongHex => "LongHex",
+    }
+}

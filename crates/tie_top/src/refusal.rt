@@ -1,0 +1,63 @@
+ghost use Rattle.std.specs.Prelude.{◌≡◌};
+ghost use Rattle.tie_top.specs.declared.refusal.Refusal.TheVariants.{NoMemory};
+
+use crate::Status;
+use crate::hexadecimal::HexRule;
+use crate::text::Text;
+use std::alloc::{AllocError, AllocFailed};
+
+/// Why there is no report.
+#[derive(Drop)]
+pub enum Refusal {
+    Usage {
+        word: u32,
+    },
+    ReadFault {
+        name: Text,
+    },
+    TooLong {
+        name: Text,
+    },
+    TextRefused {
+        name: Text,
+        rule: HexRule,
+        place: u32,
+    },
+    NoMemory,
+}
+
+impl From<AllocError> for Refusal {
+    ghost from_gives = { λ _ refusal. refusal ≡ NoMemory };
+
+    fn from(_: AllocError) -> Self {
+        Refusal::NoMemory
+    }
+}
+
+impl<T: Drop> From<AllocFailed<T>> for Refusal {
+    ghost from_gives = { λ _ refusal. refusal ≡ NoMemory };
+
+    fn from(_: AllocFailed<T>) -> Self {
+        Refusal::NoMemory
+    }
+}
+
+impl Refusal {
+    ghost use Rattle.tie_top.specs.Printing.{status_of};
+
+    pub fn status(&self) -> Status
+        ensures { result ≡ status_of self.now }
+    {
+        match self {
+            Refusal::Usage { word: _ } => Status::Usage,
+            Refusal::ReadFault { name: _ } => Status::ReadFault,
+            Refusal::TooLong { name: _ } => Status::TooLong,
+            Refusal::TextRefused {
+                name: _,
+                rule: _,
+                place: _,
+            } => Status::TextRefused,
+            Refusal::NoMemory => Status::NoMemory,
+        }
+    }
+}

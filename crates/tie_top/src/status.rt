@@ -1,0 +1,43 @@
+ghost use Rattle.std.specs.Prelude.{◌≡◌};
+
+/// How a call ended.
+#[derive(Clone, Copy, Debug, PartialEq, Eq)]
+pub enum Status {
+    /// The report is whole on the output, and nothing below holds.
+    Done,
+    /// The words are those of no command.
+    Usage,
+    /// The shelf failed at a file.
+    ReadFault,
+    /// A file has more than 1,048,576 bytes.
+    TooLong,
+    /// A TIE text is not lexed, not parsed or breaks a rule. No command gives it yet.
+    TieRefused,
+    /// An assembly text has no image. No command gives it yet.
+    AsmRefused,
+    /// A network file is refused. No command gives it yet.
+    NetRefused,
+    /// A hexadecimal text is refused.
+    TextRefused,
+    /// A processor of the report has trapped.
+    Trapped,
+    /// A processor has used up its budget. No command gives it yet.
+    Unfinished,
+    /// A processor waits for a queue. No command gives it yet.
+    Blocked,
+    /// A sink failed.
+    WriteFault,
+    /// There was no memory.
+    NoMemory,
+}
+
+impl Status {
+    ghost use Rattle.tie_top.specs.Printing.{status_number};
+
+    /// The number with which a program ends: 0 to 12, in the order of the names.
+    pub fn number(&self) -> u8
+        ensures { result ≡ status_number self.now }
+    {
+        *self as u8
+    }
+}

@@ -1,0 +1,258 @@
+use crate::{NoGate, Status, tie_top};
+use std::alloc::Global;
+use std::test::Fail;
+use std::thread::Threads;
+use tie_io::{MemShelf, MemSink};
+
+// Which calls fail: of the shelf, of the output and of the error output.
+struct Faults {
+    shelf: &'static [u64],
+    out: &'static [u64],
+    err: &'static [u64],
+}
+
+const NO_FAULTS: Faults = Faults {
+    shelf: &[],
+    out: &[],
+    err: &[],
+};
+
+const FIRST_READ: Faults = Faults {
+    shelf: &[0],
+    out: &[],
+    err: &[],
+};
+
+const SECOND_LINE: Faults = Faults {
+    shelf: &[],
+    out: &[1],
+    err: &[],
+};
+
+const FIRST_REFUSAL: Faults = Faults {
+    shelf: &[],
+    out: &[],
+    err: &[0],
+};
+
+// A call with the file `p`, and what it must answer and write.
+struct Case {
+    text: &'static str,
+    words: &'static [&'static str],
+    faults: Faults,
+    status: Status,
+    out: &'static str,
+    err: &'static str,
+}
+
+const FIVE: &str = "22 A0 05 00 51 00";
+
+const SUM: &str = "22 A0 05 32 AF FF 30 42 80 00 51 00";
+
+const RUN: &[&str] = &["exec", "p"];
+
+const CASES: [Case; 16] = [
+    Case {
+        text: FIVE,
+        words: RUN,
+        faults: NO_FAULTS,
+        status: Status::Done,
+        out: "core main retired 2 halted pc 00000006\n  sar 0\n  a2 00000005\nend halted\n",
+        err: "",
+    },
+    Case {
+        text: "32 AF FF 00 51 00",
+        words: RUN,
+        faults: NO_FAULTS,
+        status: Status::Done,
+        out: "core main retired 2 halted pc 00000006\n  sar 0\n  a3 FFFFFFFF\nend halted\n",
+        err: "",
+    },
+    Case {
+        text: SUM,
+        words: RUN,
+        faults: NO_FAULTS,
+        status: Status::Done,
+        out: "core main retired 4 halted pc 0000000C\n  sar 0\n  a2 00000005\n  a3 FFFFFFFF\n  a4 00000004\nend halted\n",
+        err: "",
+    },
+    Case {
+        text: "",
+        words: RUN,
+        faults: NO_FAULTS,
+        status: Status::Trapped,
+        out: "core main retired 0 trapped Illegal pc 00000000\n  sar 0\nend trapped\n",
+        err: "",
+    },
+    Case {
+        text: FIVE,
+        words: &["exec"],
+        faults: NO_FAULTS,
+        status: Status::Usage,
+        out: "",
+        err: "usage: word 1\n",
+    },
+    Case {
+        text: FIVE,
+        words: &[],
+        faults: NO_FAULTS,
+        status: Status::Usage,
+        out: "",
+        err: "usage: word 0\n",
+    },
+    Case {
+        text: FIVE,
+        words: &["check", "p"],
+        faults: NO_FAULTS,
+        status: Status::Usage,
+        out: "",
+        err: "usage: word 0\n",
+    },
+    Case {
+        text: FIVE,
+        words: &["exec", "p", "p"],
+        faults: NO_FAULTS,
+        status: Status::Usage,
+        out: "",
+        err: "usage: word 2\n",
+    },
+    Case {
+        text: "2",
+        words: RUN,
+        faults: NO_FAULTS,
+        status: Status::TextRefused,
+        out: "",
+        err: "hex refused: p: OddHex at 1\n",
+    },
+    Case {
+        text: "22 G0 0",
+        words: RUN,
+        faults: NO_FAULTS,
+        status: Status::TextRefused,
+        out: "",
+        err: "hex refused: p: BadHex at 3\n",
+    },
+    Case {
+        text: FIVE,
+        words: &["exec", "q"],
+        faults: NO_FAULTS,
+        status: Status::ReadFault,
+        out: "",
+        err: "read fault: q\n",
+    },
+    Case {
+        text: FIVE,
+        words: RUN,
+        faults: FIRST_READ,
+        status: Status::ReadFault,
+        out: "",
+        err: "read fault: p\n",
+    },
+    Case {
+        text: SUM,
+        words: RUN,
+        faults: SECOND_LINE,
+        status: Status::WriteFault,
+        out: "core main retired 4 halted pc 0000000C\n",
+        err: "",
+    },
+    Case {
+        text: FIVE,
+        words: &["exec"],
+        faults: FIRST_REFUSAL,
+        status: Status::WriteFault,
+        out: "",
+        err: "",
+    },
+    Case {
+        text: "2",
+        words: RUN,
+        faults: FIRST_REFUSAL,
+        status: Status::WriteFault,
+        out: "",
+        err: "",
+    },
+    Case {
+        text: FIVE,
+        words: &["exec", "q"],
+        faults: FIRST_REFUSAL,
+        status: Status::WriteFault,
+        out: "",
+        err: "",
+    },
+];
+
+// Calls with one file, and answers the status and what stands on the two sinks.
+fn call(
+    rt: &(impl Threads + AllocGlobal),
+    file: &[u8],
+    words: &[&str],
+    faults: &Faults,
+) -> Result<(Status, MemSink, MemSink), Fail> {
+    let alloc = rt.alloc();
+    let mut shelf = MemShelf::new(alloc, faults.shelf.to_vec(alloc)?);
+    shelf.add("p", file).ok().ok_or("no memory")?;
+    let mut out = MemSink::new(alloc, faults.out.to_vec(alloc)?);
+    let mut err = MemSink::new(alloc, faults.err.to_vec(alloc)?);
+    let words = owned(alloc, words)?;
+    let status = tie_top(rt, alloc, &words, &mut shelf, &mut out, &mut err, &NoGate);
+    Ok((status, out, err))
+}
+
+fn owned(alloc: Global, words: &[&str]) -> Result<Vec<String>, Fail> {
+    let mut owned = Vec::new(alloc);
+    for word in words {
+        owned.push(String::from_str(alloc, word)?)?;
+    }
+    Ok(owned)
+}
+
+#[test]
+fn cases(rt: HostRuntime) -> Result<(), Fail> {
+    for case in &CASES {
+        let (status, out, err) = call(&rt, case.text.as_bytes(), case.words, &case.faults)?;
+        assert_eq!(rt; status, case.status);
+        assert_eq!(rt; out.written(), case.out.as_bytes());
+        assert_eq!(rt; err.written(), case.err.as_bytes());
+    }
+    Ok(())
+}
+
+// So many times this byte.
+fn filled(alloc: Global, byte: u8, count: usize) -> Result<Vec<u8>, Fail> {
+    Ok(vec![in alloc; byte; count]?)
+}
+
+#[test]
+fn long_file(rt: HostRuntime) -> Result<(), Fail> {
+    let file = filled(rt.alloc(), b' ', 1_048_577)?;
+    let (status, out, err) = call(&rt, &file, RUN, &NO_FAULTS)?;
+    assert_eq!(rt; status, Status::TooLong);
+    assert_eq!(rt; out.written(), b"".as_slice());
+    assert_eq!(rt; err.written(), b"too long: p\n".as_slice());
+    let (status, out, _) = call(&rt, &file, RUN, &FIRST_REFUSAL)?;
+    assert_eq!(rt; status, Status::WriteFault);
+    assert_eq!(rt; out.written(), b"".as_slice());
+    Ok(())
+}
+
+#[test]
+fn longest_file(rt: HostRuntime) -> Result<(), Fail> {
+    let file = filled(rt.alloc(), b' ', 1_048_576)?;
+    let (status, _, err) = call(&rt, &file, RUN, &NO_FAULTS)?;
+    assert_eq!(rt; status, Status::Trapped);
+    assert_eq!(rt; err.written(), b"".as_slice());
+    Ok(())
+}
+
+#[test]
+fn long_image(rt: HostRuntime) -> Result<(), Fail> {
+    let text = filled(rt.alloc(), b'0', 131_074)?;
+    let (status, _, err) = call(&rt, &text, RUN, &NO_FAULTS)?;
+    assert_eq!(rt; status, Status::TextRefused);
+    assert_eq!(rt;
+        err.written(),
+        b"hex refused: p: LongHex at 131074\n".as_slice()
+    );
+    Ok(())
+}

@@ -1,4 +1,5 @@
 pub mod Numbers
+pub mod Constants
 pub mod Formats
 pub mod Table
 pub mod Reading

@@ -2,10 +2,17 @@ ghost use Rattle.std.specs.Prelude.{◌≡◌, ◌<◌, IfSome, Some};
 ghost use Rattle.xt_isa.specs.Reading.{read_fields};
 ghost use Rattle.xt_isa.specs.Table.{Fits, Spells};
 
+mod branches;
+mod jumps;
 mod lsai;
 mod qrst;
+mod rst0;
+mod rst1;
+mod rst3;
 
 use crate::Inst;
+use branches::read_b;
+use jumps::{read_calls, read_l32r, read_si};
 use lsai::read_lsai;
 use qrst::read_qrst;
 
@@ -30,9 +37,29 @@ struct Fields {
 fn read_fields(fields: &Fields) -> Option<Inst>
     ensures { result ≡ read_fields fields.now.op0 fields.now.t fields.now.s fields.now.r fields.now.op1 fields.now.op2 }
 {
-    match fields.op0 {
-        0 => read_qrst(fields.op1, fields.op2, fields.r, fields.s, fields.t),
-        2 => read_lsai(fields.r, fields.s, fields.t, fields.op1 + 16 * fields.op2),
+    let Fields {
+        op0,
+        t,
+        s,
+        r,
+        op1,
+        op2,
+    } = *fields;
+    let imm8 = op1 + 16 * op2;
+    let imm12 = u32::from(r) + 16 * u32::from(op1) + 256 * u32::from(op2);
+    let imm16 = u32::from(s) + 16 * u32::from(r) + 256 * u32::from(op1) + 4096 * u32::from(op2);
+    let offset = u32::from(t / 4)
+        + 4 * u32::from(s)
+        + 64 * u32::from(r)
+        + 1024 * u32::from(op1)
+        + 16384 * u32::from(op2);
+    match op0 {
+        0 => read_qrst(op1, op2, r, s, t),
+        1 => read_l32r(t, imm16),
+        2 => read_lsai(r, s, t, imm8),
+        5 => read_calls(t, offset),
+        6 => read_si(t, r, s, imm8, imm12, offset),
+        7 => read_b(r, s, t, imm8),
         _ => None,
     }
 }

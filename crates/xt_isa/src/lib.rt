@@ -4,6 +4,7 @@
 //! first, with the fields op0, t, s, r, op1 and op2 of four bits each from bit 0.
 #![tactic(auto)]
 
+mod constants;
 mod decode;
 mod encode;
 mod formats;

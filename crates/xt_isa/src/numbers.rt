@@ -1,5 +1,12 @@
 ghost use Rattle.std.specs.Prelude.{◌≡◌, ◌<◌, ◌≤◌, ◌*◌, ◌^◌, ◌↔◌, IsTrue};
-ghost use Rattle.xt_isa.specs.Numbers.{IsSigned, signed_value, twos_complement};
+ghost use Rattle.xt_isa.specs.Numbers.{IsBackward, IsBetween, IsMultiple, IsSigned, signed_value, twos_complement};
+
+// Whether a value is from low to high, both of them taken.
+pub fn is_between(low: u32, high: u32, value: i32) -> bool
+    ensures { IsTrue result ↔ IsBetween low high value }
+{
+    value >= 0 && low <= value as u32 && value as u32 <= high
+}
 
 // Whether a value is from -half to half - 1.
 pub fn is_signed(half: u32, value: i32) -> bool
@@ -7,6 +14,22 @@ pub fn is_signed(half: u32, value: i32) -> bool
     ensures { IsTrue result ↔ IsSigned half value }
 {
     -(half as i32) <= value && value < half as i32
+}
+
+// Whether a value is from -distance to -1.
+pub fn is_backward(distance: u32, value: i32) -> bool
+    requires { distance ≤ 2 ^ 20 }
+    ensures { IsTrue result ↔ IsBackward distance value }
+{
+    -(distance as i32) <= value && value < 0
+}
+
+// Whether a value is a multiple of a step.
+pub fn is_multiple(step: u32, value: i32) -> bool
+    requires { 0 < step }
+    ensures { IsTrue result ↔ IsMultiple step value }
+{
+    value.unsigned_abs() % step == 0
 }
 
 // The code of a value in two's complement with `2 * half` codes.

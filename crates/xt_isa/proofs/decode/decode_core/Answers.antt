@@ -1,7 +1,8 @@
 use Rattle.std.proofs.Common.{◌≡◌, ℕ, ◌%◌, ◌/◌, List, get_or, arith, sym, subst, ◌∙◌}
 use Rattle.xt_isa.specs.Formats.{number}
 use Rattle.xt_isa.proofs.Fields.{AreSmall, Fields, IsSoundAt, fields, word_of}
-use Rattle.xt_isa.proofs.TableLemmas.{complete, sound}
+use Rattle.xt_isa.proofs.SoundLemmas.{sound}
+use Rattle.xt_isa.proofs.TableLemmas.{complete}
 use Rattle.xt_isa.proofs.decode.decode_core.Goals as goal
 
 -- the fields of three bytes

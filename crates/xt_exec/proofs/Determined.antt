@@ -1,30 +1,77 @@
 -- A state has one step, and a run has one stop.
-use Rattle.std.proofs.Common.{◌≡◌, ◌⊎◌, ℕ, zero, suc, ◌<◌, ◌≤◌, refl, sym, ap, subst, inl, inr, ◌∙◌, arith, ⊎_elim}
+use Rattle.std.proofs.Common.{◌≡◌, ◌⊎◌, ℕ, zero, suc, Some, None, ◌<◌, ◌≤◌, refl, sym, ap, subst, inl, inr, ◌∙◌, arith, ⊎_elim}
 use Rattle.xt_isa.specs.declared.instruction.Inst.{Inst}
 use Rattle.xt_isa.specs.declared.instruction.Inst.TheVariants.{Simcall}
 use Rattle.xt_isa.proofs.TableLemmas.{same_word}
-use Rattle.xt_exec.specs.declared.ending.Ending.TheVariants.{Running, Halted}
+use Rattle.xt_exec.specs.declared.ending.Ending.TheVariants.{Running, Halted, Trapped}
+use Rattle.xt_exec.specs.declared.ending.Trap.{Trap}
+use Rattle.xt_exec.specs.declared.ending.Trap.TheVariants.{Illegal, Unaligned, BadAddress, StoreText}
 use Rattle.xt_exec.specs.declared.step.CoreStep.{CoreStep}
 use Rattle.xt_exec.specs.declared.step.CoreStep.TheVariants as steps
 use Rattle.xt_exec.specs.State.{State}
-use Rattle.xt_exec.specs.Step.{BundleStep, IsAt, effect}
+use Rattle.xt_exec.specs.Action.{action}
+use Rattle.xt_exec.specs.Step.{BundleStep, IsAt, Traps, access_trap, effect}
 use Rattle.xt_exec.specs.Run.{IsDone, MeetsTrap, Retired, Retires, Stopped}
 
 -- one instruction stands ahead
 pub same_at : (s : State) (i j : Inst) → IsAt s i → IsAt s j → i ≡ j
 same_at s i j a b = same_word i j a.fits b.fits (sym a.spelled ∙ b.spelled)
 
+-- the access of the instruction ahead traps
+Reaches : State → Trap → Type 0
+Reaches s trap = (inst : Inst) × IsAt s inst × (access_trap s (action inst s).access ≡ Some trap)
+
+-- one access has one trap
+same_reached : (s : State) (x y : Trap) → Reaches s x → Reaches s y → x ≡ y
+unfolding Reaches
+same_reached s x y (i, a, p) (j, b, q) =
+    let e = subst (λ k. access_trap s (action k s).access ≡ Some x) (same_at s i j a b) p in
+    let both : Some x ≡ Some y = sym e ∙ q in cc
+
+not_reached : (s : State) (i : Inst) (trap : Trap) → IsAt s i → access_trap s (action i s).access ≡ None → Reaches s trap → ⊥
+unfolding Reaches
+not_reached s i trap a none (j, b, q) =
+    let e = subst (λ k. access_trap s (action k s).access ≡ None) (same_at s i j a b) none in
+    let no : None ≡ Some trap = sym e ∙ q in cc
+
+-- an instruction stands ahead whose access traps, or none does
+trap_cases : (s : State) (trap : Trap) → Traps s trap → ((trap ≡ Illegal) × ((inst : Inst) → ¬ IsAt s inst)) ⊎ Reaches s trap
+unfolding Reaches
+trap_cases s Illegal none = inl (refl, none)
+trap_cases s Unaligned p = inr p
+trap_cases s BadAddress p = inr p
+trap_cases s StoreText p = inr p
+
+-- what traps doesn't go on
+pub goes_on : (s : State) (trap : Trap) → Traps s trap → (inst : Inst) → IsAt s inst → access_trap s (action inst s).access ≡ None → ⊥
+goes_on s trap p i a none =
+    ⊎_elim (λ illegal. illegal.1 i a) (λ reached. not_reached s i trap a none reached) (trap_cases s trap p)
+
+reached_at : (s : State) (trap : Trap) → Reaches s trap → ((inst : Inst) → ¬ IsAt s inst) → ⊥
+unfolding Reaches
+reached_at s trap (i, a, p) none = none i a
+
+-- one trap
+same_trap : (s : State) (x y : Trap) → Traps s x → Traps s y → x ≡ y
+same_trap s x y p q =
+    ⊎_elim
+    (λ a. ⊎_elim (λ b. a.0 ∙ sym b.0) (λ b. absurd (reached_at s y b a.1)) (trap_cases s y q))
+    (λ a. ⊎_elim (λ b. absurd (reached_at s x a b.1)) (λ b. same_reached s x y a b) (trap_cases s y q))
+    (trap_cases s x p)
+
 -- one answer and one next state
 pub same_step : (s : State) (answer other : CoreStep) (t u : State) → BundleStep s answer t → BundleStep s other u → (answer ≡ other) × (t ≡ u)
-same_step s steps.Stepped steps.Stepped t u (i, a, n, e) (j, b, m, f) = (refl, e ∙ ap (λ k. effect k s) (same_at s i j a b) ∙ sym f)
-same_step s steps.Stepped steps.Halted t u (i, a, n, e) (b, f) = absurd (n (same_at s i Simcall a b))
-same_step s steps.Stepped (steps.Trapped y) t u (i, a, n, e) (q, none, f) = absurd (none i a)
-same_step s steps.Halted steps.Stepped t u (a, e) (j, b, m, f) = absurd (m (same_at s j Simcall b a))
+same_step s steps.Stepped steps.Stepped t u (i, a, n, x, e) (j, b, m, y, f) = (refl, e ∙ ap (λ k. effect k s) (same_at s i j a b) ∙ sym f)
+same_step s steps.Stepped steps.Halted t u (i, a, n, x, e) (b, f) = absurd (n (same_at s i Simcall a b))
+same_step s steps.Stepped (steps.Trapped y) t u (i, a, n, x, e) (q, f) = absurd (goes_on s y q i a x)
+same_step s steps.Halted steps.Stepped t u (a, e) (j, b, m, y, f) = absurd (m (same_at s j Simcall b a))
 same_step s steps.Halted steps.Halted t u (a, e) (b, f) = (refl, e ∙ sym f)
-same_step s steps.Halted (steps.Trapped y) t u (a, e) (q, none, f) = absurd (none Simcall a)
-same_step s (steps.Trapped x) steps.Stepped t u (p, none, e) (j, b, m, f) = absurd (none j b)
-same_step s (steps.Trapped x) steps.Halted t u (p, none, e) (b, f) = absurd (none Simcall b)
-same_step s (steps.Trapped x) (steps.Trapped y) t u (p, none, e) (q, other, f) = (ap (λ trap. steps.Trapped trap) (p ∙ sym q), e ∙ sym f)
+same_step s steps.Halted (steps.Trapped y) t u (a, e) (q, f) = absurd (goes_on s y q Simcall a refl)
+same_step s (steps.Trapped x) steps.Stepped t u (p, e) (j, b, m, y, f) = absurd (goes_on s x p j b y)
+same_step s (steps.Trapped x) steps.Halted t u (p, e) (b, f) = absurd (goes_on s x p Simcall b refl)
+same_step s (steps.Trapped x) (steps.Trapped y) t u (p, e) (q, f) =
+    let same = same_trap s x y p q in
+    (ap (λ trap. steps.Trapped trap) same, e ∙ ap (λ trap. record s { ending = Trapped trap }) same ∙ sym f)
 
 -- a retirement has one next state
 pub same_retired : (s t u : State) → Retires s t → Retires s u → t ≡ u
@@ -42,8 +89,8 @@ same_after (suc k) s t u (m, a, r) (n, b, q) =
 
 -- what traps doesn't retire
 pub no_retirement : (s t u : State) → MeetsTrap s t → Retires s u → ⊥
-no_retirement s t u (r, trap, (p, none, e)) (q, inl (i, a, n, f)) = none i a
-no_retirement s t u (r, trap, (p, none, e)) (q, inr (a, f)) = none Simcall a
+no_retirement s t u (r, trap, (p, e)) (q, inl (i, a, n, x, f)) = goes_on s trap p i a x
+no_retirement s t u (r, trap, (p, e)) (q, inr (a, f)) = goes_on s trap p Simcall a refl
 
 -- before the last of more retirements another one follows
 below_suc : (k j : ℕ) → k < suc j → (k < j) ⊎ (k ≡ j)

@@ -1,3 +1,3 @@
 mod Rows
 pub mod Determined
-pub mod Bounded
+pub mod Memory

@@ -1,7 +1,10 @@
 ghost use Rattle.std.specs.Prelude.{◌≡◌, ◌+◌, ◌<◌, ◌≤◌, ◌^◌, IfOk, IfSome, IfNone, length, slice_index, slice_set, take};
+ghost use Rattle.xt_exec.specs.Range.{IsSize};
+ghost use Rattle.xt_exec.specs.Step.{loaded_value, low_bytes, overwritten};
 ghost use Rattle.xt_exec.specs.State.{bytes_ahead, first_state, loaded};
 
 use crate::Ending;
+use crate::bytes::{filled, half_at, put_half, put_word, word_at};
 use std::alloc::{AllocError, Global};
 use std::marker::Model;
 
@@ -40,7 +43,7 @@ impl Model for Arch {
 
 // The text from address 0 on, and zeros behind it.
 #[tactic(auto, unfolding(crate::specs::State::loaded))]
-fn load(alloc: Global, size: usize, text: &[u8]) -> Result<Vec<u8>, AllocError>
+fn memory_of(alloc: Global, size: usize, text: &[u8]) -> Result<Vec<u8>, AllocError>
     requires { length text.now ≤ size }
     ensures bytes { IfOk result (λ memory. memory.items ≡ loaded size text.now) }
     ensures size { IfOk result (λ memory. length memory.items ≡ size) }
@@ -57,7 +60,7 @@ impl Arch {
         requires small { memory < 2 ^ 31 }
         ensures { IfOk result (λ arch. arch ≡ first_state memory text.now) }
     {
-        match load(alloc, memory as usize, text) {
+        match memory_of(alloc, memory as usize, text) {
             Ok(bytes) => Ok(Arch {
                 pc: 0,
                 registers: [0; 16],
@@ -136,10 +139,24 @@ impl Arch {
         ensures found { IfSome result (λ bytes. bytes ≡ take 3 (bytes_ahead self.now)) }
         ensures enough { IfSome result (λ _. 3 ≤ length (bytes_ahead self.now)) }
         ensures none { IfNone result (length (bytes_ahead self.now) < 3) }
-        ensures below { IfSome result (λ _. self.now.pc + 3 < 2 ^ 32) }
+        ensures below { IfSome result (λ _. self.now.pc + 3 < 2 ^ 31) }
     {
         let ahead = self.memory.get(self.pc as usize..self.text_end as usize)?;
         ahead.first_chunk::<3>().copied()
+    }
+
+    // So many bytes from an address on as a number, the lowest first, filled with its sign or with zeros.
+    pub(crate) fn load(&self, address: u32, bytes: u8, signed: bool) -> u32
+        requires size { IsSize bytes }
+        requires within { address + bytes ≤ length self.now.memory }
+        ensures { result ≡ loaded_value self.now address bytes signed }
+    {
+        let a = address as usize;
+        match bytes {
+            1 => filled(1, signed, u32::from(self.memory[a])),
+            2 => filled(2, signed, half_at(&self.memory, a)),
+            _ => filled(4, signed, word_at(&self.memory, a)),
+        }
     }
 
     /// Moves the pc.
@@ -171,6 +188,21 @@ impl Arch {
         ensures { self.new ≡ record self.old { memory = slice_set self.old.memory a value } }
     {
         self.memory[a as usize] = value;
+    }
+
+    // The low bytes of a value go into memory from an address on, the lowest first.
+    #[tactic(auto, using(crate::proofs::Memory::overwritten_one), unfolding(crate::specs::Step::low_bytes))]
+    pub(crate) fn store(&mut self, address: u32, bytes: u8, value: u32)
+        requires size { IsSize bytes }
+        requires within { address + bytes ≤ length self.old.memory }
+        ensures { self.new ≡ record self.old { memory = overwritten self.old.memory address (low_bytes bytes value) } }
+    {
+        let a = address as usize;
+        match bytes {
+            1 => self.memory[a] = (value % 256) as u8,
+            2 => put_half(&mut self.memory, a, value),
+            _ => put_word(&mut self.memory, a, value),
+        }
     }
 
     /// Lets the processor go on, halt or trap.

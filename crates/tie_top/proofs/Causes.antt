@@ -18,7 +18,7 @@ use Rattle.tie_top.specs.Answers.{Call, IsRight, Says, Names, IsNoHex, Stops}
 
 -- the cause of a verdict
 abbrev pub Cause : Call → Verdict → Type 0
-Cause c (Ok report) = (name text : List ℕ) × (retired : ℕ) × (end : State) × Names c name × IsFile (c.shelf.holds name) text × Stops text retired end × (report ≡ reported retired end)
+Cause c (Ok report) = (name text : List ℕ) × (retired : ℕ) × (end : State) × Names c name × IsFile (c.shelf.holds name) text × Stops text retired end × (report ≡ reported 1000000 retired end)
 Cause c (Err (Usage place)) = WrongAt c.words place
 Cause c (Err (ReadFault name)) = Names c name × Rose (c.shelf.before name) (c.shelf.after name)
 Cause c (Err (TooLong name)) = Names c name × ((front : List ℕ) × IsLonger (c.shelf.holds name) 1048576 front)

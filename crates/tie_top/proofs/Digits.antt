@@ -1,12 +1,9 @@
 -- Digits of a text, and their pairs.
 use Rattle.std.proofs.Common.{◌≡◌, ℕ, ◌+◌, ◌*◌, ◌/◌, ◌≤◌, ◌<◌, Bool, true, false, cond, List, [], ◌∷◌, length, get_or, drop, Option, Some, None, refl, arith, IfSome, zero, suc, lit<, ◌∙◌, length-drop}
 use Rattle.std.proofs.lemmas.Grind.{common_steps}
-use Rattle.std.specs.Prelude.{nat_le, nat_lt, ◌&&◌, ◌==◌, ◌%◌, Result, Ok, Err}
+use Rattle.std.specs.Prelude.{nat_le, ◌&&◌}
 use Rattle.std.specs.List.{cons_option}
-use Rattle.std.proofs.lemmas.Bool.{ltb-false}
-use Rattle.tie_top.specs.declared.hexadecimal.HexRule.{HexRule}
-use Rattle.tie_top.specs.declared.hexadecimal.HexRule.TheVariants.{OddHex, LongHex}
-use Rattle.tie_top.specs.Hexadecimal.{digit_value, digits, paired, first_foreign, bytes_where, hex_bytes}
+use Rattle.tie_top.specs.Hexadecimal.{digit_value, digits, paired}
 
 either : {A : Type 0} (P : A → Type 0) (b : Bool) (x y : A) → (b ≡ true → P x) → (b ≡ false → P y) → P (cond b x y)
 either P true x y f g = f refl
@@ -58,27 +55,3 @@ paired-at ds i h =
 -- no pair stands behind the last one
 pub paired-end : (ds : List ℕ) → paired (drop (2 * (length ds / 2)) ds) ≡ []
 paired-end ds = paired-short _ (omega (arith, length-drop (2 * (length ds / 2)) ds))
-
-paired-half : (ds : List ℕ) → 2 * length (paired ds) ≤ length ds
-paired-half [] = omega arith
-paired-half (d ∷ []) = grind arith
-paired-half (high ∷ low ∷ ds) = let rest = paired-half ds in grind arith
-
--- an image has at most as many bytes as the limit
-short : (limit size : ℕ) (text image : List ℕ) (is_odd is_long : Bool) → nat_lt (2 * limit) (length (digits text)) ≡ is_long
-    → cond {A = Result (List ℕ) (HexRule × ℕ)} is_odd (Err (OddHex, size)) (cond {A = Result (List ℕ) (HexRule × ℕ)} is_long (Err (LongHex, size)) (Ok (paired (digits text)))) ≡ Ok image
-    → length image ≤ limit
-short limit size text image true is_long p e = absurd cc
-short limit size text image false true p e = absurd cc
-short limit size text image false false p e =
-    let same : paired (digits text) ≡ image = cc in
-    let half : 2 * length (paired (digits text)) ≤ length (digits text) = paired-half (digits text) in
-    let few : length (digits text) ≤ 2 * limit = ltb-false _ _ p in
-    rw (← same) (omega arith)
-
-short_where : (limit : ℕ) (text image : List ℕ) (found : Option ℕ) → bytes_where limit text found ≡ Ok image → length image ≤ limit
-short_where limit text image None e = short limit (length text) text image (length (digits text) % 2 == 1) (nat_lt (2 * limit) (length (digits text))) refl e
-short_where limit text image (Some place) e = absurd cc
-
-pub hex_bytes_short : (limit : ℕ) (text image : List ℕ) → hex_bytes limit text ≡ Ok image → length image ≤ limit
-hex_bytes_short limit text image e = short_where limit text image (first_foreign text) e

@@ -6,7 +6,6 @@ use Rattle.xt_exec.specs.declared.ending.Ending.{Ending}
 use Rattle.xt_exec.specs.declared.ending.Ending.TheVariants as endings
 use Rattle.xt_exec.specs.declared.ending.Trap.{Trap}
 use Rattle.xt_exec.specs.State.{State}
-use Rattle.xt_exec.proofs.Bounded.{never_running}
 use Rattle.tie_top.specs.declared.status.Status.{Status}
 use Rattle.tie_top.specs.declared.status.Status.TheVariants as statuses
 use Rattle.tie_top.specs.declared.refusal.Refusal.{Refusal}
@@ -19,7 +18,6 @@ use Rattle.tie_top.specs.Meaning.{Verdict, Means, UnlessMemory}
 use Rattle.tie_top.specs.Delivery.{Delivered, Whole, Faulted}
 use Rattle.tie_top.specs.Answers.{Call, IsRight, Says, SaysNoHex, Shows, Names, IsGiven, ReadFaultIsRight, WriteFaultIsRight}
 use Rattle.tie_top.proofs.Causes.{Cause, cause, Tells, tells_right, reported_whole}
-use Rattle.tie_top.proofs.Digits.{hex_bytes_short}
 
 pub usage_only : (c : Call) → IsRight c → c.status ≡ statuses.Usage → (place : ℕ) × WrongAt c.words place × Says c (Usage place)
 usage_only c r e = at (tells_right c statuses.Usage ((λ p. absurd cc), (λ p. absurd cc), (λ p. absurd cc), (λ p. absurd cc), (λ p. absurd cc)) r e)
@@ -74,12 +72,13 @@ shows c s (Err refusal) n m h (inl (p, w)) e = absurd (m refusal (sym p ∙ e))
 shows c s (Err refusal) n m h (inr (inl (p, q, f))) e = absurd (n.0 (sym e ∙ p))
 shows c s (Err refusal) n m h (inr (inr (p, w))) e = absurd (n.1 (sym e ∙ p))
 
-not_done : (refusal : Refusal) → (status_of refusal ≢ statuses.Done) × (status_of refusal ≢ statuses.Trapped)
-not_done (Usage place) = ((λ p. absurd cc), (λ p. absurd cc))
-not_done (ReadFault name) = ((λ p. absurd cc), (λ p. absurd cc))
-not_done (TooLong name) = ((λ p. absurd cc), (λ p. absurd cc))
-not_done (TextRefused name rule place) = ((λ p. absurd cc), (λ p. absurd cc))
-not_done NoMemory = ((λ p. absurd cc), (λ p. absurd cc))
+-- no refusal has a status of reports
+not_end : (refusal : Refusal) → (status_of refusal ≢ statuses.Done) × (status_of refusal ≢ statuses.Trapped) × (status_of refusal ≢ statuses.Unfinished)
+not_end (Usage place) = ((λ p. absurd cc), (λ p. absurd cc), (λ p. absurd cc))
+not_end (ReadFault name) = ((λ p. absurd cc), (λ p. absurd cc), (λ p. absurd cc))
+not_end (TooLong name) = ((λ p. absurd cc), (λ p. absurd cc), (λ p. absurd cc))
+not_end (TextRefused name rule place) = ((λ p. absurd cc), (λ p. absurd cc), (λ p. absurd cc))
+not_end NoMemory = ((λ p. absurd cc), (λ p. absurd cc), (λ p. absurd cc))
 
 ends_done : (ending : Ending) → end_status ending ≡ statuses.Done → ending ≡ endings.Halted
 ends_done endings.Running e = absurd cc
@@ -91,17 +90,28 @@ ends_trapped endings.Running e = absurd cc
 ends_trapped endings.Halted e = absurd cc
 ends_trapped (endings.Trapped trap) e = (trap, refl)
 
+ends_unfinished : (ending : Ending) → end_status ending ≡ statuses.Unfinished → ending ≡ endings.Running
+ends_unfinished endings.Running e = refl
+ends_unfinished endings.Halted e = absurd cc
+ends_unfinished (endings.Trapped trap) e = absurd cc
+
 pub done_only : (c : Call) → IsRight c → c.status ≡ statuses.Done → (name text : List ℕ) × (retired : ℕ) × (end : State) × (end.ending ≡ endings.Halted) × Shows c name text retired end
-done_only c (v, u, d) e = at (shows c statuses.Done v ((λ p. absurd cc), (λ p. absurd cc)) (λ refusal. (not_done refusal).0) (cause c v u) d e)
+done_only c (v, u, d) e = at (shows c statuses.Done v ((λ p. absurd cc), (λ p. absurd cc)) (λ refusal. (not_end refusal).0) (cause c v u) d e)
   where
     at : ShowsEnd c statuses.Done → (name text : List ℕ) × (retired : ℕ) × (end : State) × (end.ending ≡ endings.Halted) × Shows c name text retired end
     at (name, text, retired, end, p, w) = (name, text, retired, end, ends_done end.ending p, w)
 
 pub trapped_only : (c : Call) → IsRight c → c.status ≡ statuses.Trapped → (name text : List ℕ) × (retired : ℕ) × (end : State) × ((trap : Trap) × (end.ending ≡ endings.Trapped trap)) × Shows c name text retired end
-trapped_only c (v, u, d) e = at (shows c statuses.Trapped v ((λ p. absurd cc), (λ p. absurd cc)) (λ refusal. (not_done refusal).1) (cause c v u) d e)
+trapped_only c (v, u, d) e = at (shows c statuses.Trapped v ((λ p. absurd cc), (λ p. absurd cc)) (λ refusal. (not_end refusal).1) (cause c v u) d e)
   where
     at : ShowsEnd c statuses.Trapped → (name text : List ℕ) × (retired : ℕ) × (end : State) × ((trap : Trap) × (end.ending ≡ endings.Trapped trap)) × Shows c name text retired end
     at (name, text, retired, end, p, w) = (name, text, retired, end, ends_trapped end.ending p, w)
+
+pub unfinished_only : (c : Call) → IsRight c → c.status ≡ statuses.Unfinished → (name text : List ℕ) × (retired : ℕ) × (end : State) × (end.ending ≡ endings.Running) × Shows c name text retired end
+unfinished_only c (v, u, d) e = at (shows c statuses.Unfinished v ((λ p. absurd cc), (λ p. absurd cc)) (λ refusal. (not_end refusal).2) (cause c v u) d e)
+  where
+    at : ShowsEnd c statuses.Unfinished → (name text : List ℕ) × (retired : ℕ) × (end : State) × (end.ending ≡ endings.Running) × Shows c name text retired end
+    at (name, text, retired, end, p, w) = (name, text, retired, end, ends_unfinished end.ending p, w)
 
 not_write_fault : (refusal : Refusal) → status_of refusal ≢ statuses.WriteFault
 not_write_fault (Usage place) = λ p. absurd cc
@@ -138,18 +148,18 @@ refusal_given (TooLong name) = tt
 refusal_given (TextRefused name rule place) = tt
 refusal_given NoMemory = tt
 
-end_given : (ending : Ending) → ending ≢ endings.Running → IsGiven (end_status ending)
-end_given endings.Running ne = absurd (ne refl)
-end_given endings.Halted ne = tt
-end_given (endings.Trapped trap) ne = tt
+end_given : (ending : Ending) → IsGiven (end_status ending)
+end_given endings.Running = tt
+end_given endings.Halted = tt
+end_given (endings.Trapped trap) = tt
 
 pub given : (c : Call) → IsRight c → IsGiven c.status
 given c (v, u, d) = at v (cause c v u) d
   where
     at : (v : Verdict) → Cause c v → Delivered c.out c.err v c.status → IsGiven c.status
-    at (Ok report) (name, text, retired, end, named, told, (image, (short, is), stopped), same) (inl (p, w)) =
+    at (Ok report) (name, text, retired, end, named, told, stops, same) (inl (p, w)) =
         let status : end_status end.ending ≡ c.status = sym (ap (λ (r : Report). r.status) same) ∙ sym p in
-        subst IsGiven status (end_given end.ending (never_running 65536 retired image end (hex_bytes_short 65536 text image is) stopped))
+        subst IsGiven status (end_given end.ending)
     at (Ok report) h (inr (inl (p, f))) = rw p tt
     at (Ok report) h (inr (inr (p, w))) = rw p tt
     at (Err refusal) h (inl (p, w)) = rw p (refusal_given refusal)

@@ -106,23 +106,23 @@ text_refused_where c r name text rule place n (short, refuses) = at (judged c r 
     at (Wants out) = inl (ran_out_delivers c (Err (TextRefused name rule place)) out)
 
 pub report_where : (c : Call) → IsRight c → (name text : List ℕ) (retired : ℕ) (end : State)
-    → NamesText c name text → Stops text retired end → DeliveredIfRead c name (Ok (reported retired end))
+    → NamesText c name text → Stops text retired end → DeliveredIfRead c name (Ok (reported 1000000 retired end))
 report_where c r name text retired end n (image, (short, is), stopped) = at (judged c r name text n)
   where
-    at : Judged c name text → DeliveredIfRead c name (Ok (reported retired end))
+    at : Judged c name text → DeliveredIfRead c name (Ok (reported 1000000 retired end))
     at (Fails rose d) = inr (rose, d)
     at (Longer l d) = absurd (omega arith)
     at (Short s v (IsHex other also (k, t, stops, p)) d) =
         let e : other ≡ image = cc in
         let one = same_stop 1000000 (first_state 65536 image) k retired t end (subst (λ i. Stopped 1000000 (first_state 65536 i) k t) e stops) stopped in
-        inl (subst (λ w. Delivered c.out c.err w c.status) (p ∙ ap (λ i. Ok (reported i t)) one.0 ∙ ap (λ u. Ok (reported retired u)) one.1) d)
+        inl (subst (λ w. Delivered c.out c.err w c.status) (p ∙ ap (λ i. Ok (reported 1000000 i t)) one.0 ∙ ap (λ u. Ok (reported 1000000 retired u)) one.1) d)
     at (Short s v (NoHex rule place refuses p) d) = let e : Ok image ≡ Err (rule, place) = sym is ∙ refuses in absurd cc
-    at (Wants out) = inl (ran_out_delivers c (Ok (reported retired end)) out)
+    at (Wants out) = inl (ran_out_delivers c (Ok (reported 1000000 retired end)) out)
 
 pub complete : (c : Call) → IsRight c → IsComplete c
 complete c r name text image n (short, is) steady sound = at (judged c r name text n)
   where
-    reports : (k : ℕ) (t : State) → Stopped 1000000 (first_state 65536 image) k t → Reported c.out c.err (reported k t) c.status
+    reports : (k : ℕ) (t : State) → Stopped 1000000 (first_state 65536 image) k t → Reported c.out c.err (reported 1000000 k t) c.status
         → Completes c image ⊎ (c.status ≡ statuses.NoMemory)
     reports k t stops (inl (p, w)) = inl (k, t, stops, p, w)
     reports k t stops (inr (inl (p, f))) = absurd (sound f.0)

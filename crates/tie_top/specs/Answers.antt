@@ -102,13 +102,13 @@ Stops text retired end = (image : List ℕ) × IsHexOf text image × Stopped 100
 
 -- the image of the file that the words name stops so, and its report is whole on out
 abbrev pub Shows : Call → List ℕ → List ℕ → ℕ → State → Type 0
-Shows c name text retired end = Names c name × IsFile (c.shelf.holds name) text × Stops text retired end × Whole c.out c.err (report_text retired end)
+Shows c name text retired end = Names c name × IsFile (c.shelf.holds name) text × Stops text retired end × Whole c.out c.err (report_text 1000000 retired end)
 
 -- a status of reports: exactly where the image of the file stops with such an ending
 abbrev pub ReportIsRight : Call → Status → (Ending → Type 0) → Type 0
 ReportIsRight c status Ends =
     (c.status ≡ status → (name text : List ℕ) × (retired : ℕ) × (end : State) × Ends end.ending × Shows c name text retired end)
-    × ((name text : List ℕ) (retired : ℕ) (end : State) → NamesText c name text → Stops text retired end → Ends end.ending → DeliveredIfRead c name (Ok (reported retired end)))
+    × ((name text : List ℕ) (retired : ℕ) (end : State) → NamesText c name text → Stops text retired end → Ends end.ending → DeliveredIfRead c name (Ok (reported 1000000 retired end)))
 
 -- Done: exactly where the processor has halted
 abbrev pub DoneIsRight : Call → Type 0
@@ -117,6 +117,10 @@ DoneIsRight c = ReportIsRight c statuses.Done (λ ending. ending ≡ endings.Hal
 -- Trapped: exactly where the processor has trapped
 abbrev pub TrappedIsRight : Call → Type 0
 TrappedIsRight c = ReportIsRight c statuses.Trapped (λ ending. (trap : Trap) × (ending ≡ endings.Trapped trap))
+
+-- Unfinished: exactly where the processor still runs, with its budget used up
+abbrev pub UnfinishedIsRight : Call → Type 0
+UnfinishedIsRight c = ReportIsRight c statuses.Unfinished (λ ending. ending ≡ endings.Running)
 
 -- WriteFault: only where the count of the sink rose that the text goes to
 abbrev pub WriteFaultIsRight : Call → Type 0
@@ -130,14 +134,13 @@ abbrev pub IsGiven : Status → Type 0
 IsGiven statuses.TieRefused = ⊥
 IsGiven statuses.AsmRefused = ⊥
 IsGiven statuses.NetRefused = ⊥
-IsGiven statuses.Unfinished = ⊥
 IsGiven statuses.Blocked = ⊥
 IsGiven others = Unit {0}
 
 -- the report of the one stop of an image is whole on out, with its status
 abbrev pub Completes : Call → List ℕ → Type 0
 Completes c image =
-    (retired : ℕ) × (end : State) × Stopped 1000000 (first_state 65536 image) retired end × (c.status ≡ end_status end.ending) × Whole c.out c.err (report_text retired end)
+    (retired : ℕ) × (end : State) × Stopped 1000000 (first_state 65536 image) retired end × (c.status ≡ end_status end.ending) × Whole c.out c.err (report_text 1000000 retired end)
 
 -- completeness: valid input, no fault of its file and none of out give that report, or want of memory
 abbrev pub IsComplete : Call → Type 0

@@ -37,13 +37,13 @@ pub data HexThen {A : Type 0} (name text : List ℕ) (go : List ℕ → Result A
   IsHex : (image : List ℕ) → hex_bytes 65536 text ≡ Ok image → go image verdict → HexThen name text go verdict
   NoHex : (rule : HexRule) (place : ℕ) → hex_bytes 65536 text ≡ Err (rule, place) → verdict ≡ Err (TextRefused name rule place) → HexThen name text go verdict
 
--- the report of a processor that stopped
-abbrev pub reported : ℕ → State → Report
-reported retired end = record { status = end_status end.ending; text = report_text retired end }
+-- the report of a processor with this budget that stopped
+abbrev pub reported : ℕ → ℕ → State → Report
+reported budget retired end = record { status = end_status end.ending; text = report_text budget retired end }
 
 -- the report of an image in 65,536 bytes of memory, run to its stop with a budget of 1,000,000 retirements
 abbrev pub Reports : List ℕ → Verdict → Type 0
-Reports image verdict = (retired : ℕ) × (end : State) × Stopped 1000000 (first_state 65536 image) retired end × (verdict ≡ Ok (reported retired end))
+Reports image verdict = (retired : ℕ) × (end : State) × Stopped 1000000 (first_state 65536 image) retired end × (verdict ≡ Ok (reported 1000000 retired end))
 
 abbrev pub ExecMeans : Shelved → List ℕ → Verdict → Type 0
 ExecMeans s hex = Reads s hex (λ text. HexThen hex text Reports)

@@ -28,11 +28,11 @@ trap_word traps.Unaligned = codes "Unaligned"
 trap_word traps.BadAddress = codes "BadAddress"
 trap_word traps.StoreText = codes "StoreText"
 
--- how a processor stands
-abbrev pub ending_words : Ending → List ℕ
-ending_words endings.Running = codes "running"
-ending_words endings.Halted = codes "halted"
-ending_words (endings.Trapped trap) = codes "trapped " ++ trap_word trap
+-- how a processor stopped; one that still runs has used up its budget
+abbrev pub ending_words : ℕ → Ending → List ℕ
+ending_words budget endings.Running = codes "spent budget " ++ decimal budget
+ending_words budget endings.Halted = codes "halted"
+ending_words budget (endings.Trapped trap) = codes "trapped " ++ trap_word trap
 
 -- the line of each register that isn't 0, numbered from here on
 abbrev pub register_lines : ℕ → List ℕ → List ℕ
@@ -46,10 +46,10 @@ end_word endings.Running = codes "unfinished"
 end_word endings.Halted = codes "halted"
 end_word (endings.Trapped trap) = codes "trapped"
 
--- the report of one processor, with its count of retirements
-abbrev pub report_text : ℕ → State → List ℕ
-report_text retired s =
-    codes "core main retired " ++ decimal retired ++ codes " " ++ ending_words s.ending ++ codes " pc " ++ hex_digits 8 s.pc
+-- the report of one processor, with its budget and its count of retirements
+abbrev pub report_text : ℕ → ℕ → State → List ℕ
+report_text budget retired s =
+    codes "core main retired " ++ decimal retired ++ codes " " ++ ending_words budget s.ending ++ codes " pc " ++ hex_digits 8 s.pc
     ++ codes "\n  sar " ++ decimal s.sar ++ codes "\n" ++ register_lines 0 s.registers ++ codes "end " ++ end_word s.ending ++ codes "\n"
 
 -- the status of a report

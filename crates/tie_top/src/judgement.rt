@@ -97,5 +97,5 @@ fn run_image(alloc: Global, image: &[u8]) -> Result<Report, Refusal>
         return Err(Refusal::NoMemory);
     };
     let retired = run(&mut arch, BUDGET);
-    Ok(report_of(alloc, retired, &arch)?)
+    Ok(report_of(alloc, BUDGET, retired, &arch)?)
 }

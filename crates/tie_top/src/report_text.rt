@@ -9,22 +9,27 @@ use crate::text::Text;
 use std::alloc::{AllocError, Global};
 use xt_exec::{Arch, Ending, Trap};
 
-/// The report of a processor that stopped after so many retirements.
-pub fn report_of(alloc: Global, retired: u32, arch: &Arch) -> Result<Report, AllocError>
-    ensures { IfOk result (λ report. report ≡ reported retired arch.now) }
+/// The report of a processor with this budget that stopped after so many retirements.
+pub fn report_of(
+    alloc: Global,
+    budget: u32,
+    retired: u32,
+    arch: &Arch,
+) -> Result<Report, AllocError>
+    ensures { IfOk result (λ report. report ≡ reported budget retired arch.now) }
 {
-    let text = text_of(alloc, retired, arch)?;
+    let text = text_of(alloc, budget, retired, arch)?;
     Ok(Report {
         status: end_status(arch.ending()),
         text: Text::new(text),
     })
 }
 
-fn text_of(alloc: Global, retired: u32, arch: &Arch) -> Result<String, AllocError>
-    ensures { IfOk result (λ text. string_bytes text ≡ report_text retired arch.now) }
+fn text_of(alloc: Global, budget: u32, retired: u32, arch: &Arch) -> Result<String, AllocError>
+    ensures { IfOk result (λ text. string_bytes text ≡ report_text budget retired arch.now) }
 {
     let mut text = format!(in alloc; "core main retired {retired} ")?;
-    push_ending(&mut text, arch.ending())?;
+    push_ending(&mut text, budget, arch.ending())?;
     text.push_str(" pc ")?;
     push_hex(&mut text, 8, arch.pc())?;
     push_sar(&mut text, arch.sar())?;
@@ -93,11 +98,11 @@ fn hex_digit(value: u32) -> u8
     }
 }
 
-fn push_ending(text: &mut String, ending: Ending) -> Result<(), AllocError>
-    ensures { OnOk result (string_bytes text.new ≡ string_bytes text.old ++ ending_words ending) }
+fn push_ending(text: &mut String, budget: u32, ending: Ending) -> Result<(), AllocError>
+    ensures { OnOk result (string_bytes text.new ≡ string_bytes text.old ++ ending_words budget ending) }
 {
     match ending {
-        Ending::Running => text.push_str("running"),
+        Ending::Running => write!(text, "spent budget {budget}"),
         Ending::Halted => text.push_str("halted"),
         Ending::Trapped(trap) => {
             text.push_str("trapped ")?;

@@ -21,7 +21,7 @@ pub enum Status {
     TextRefused,
     /// A processor of the report has trapped.
     Trapped,
-    /// A processor has used up its budget. No command gives it yet.
+    /// No processor of the report has trapped, and one has used up its budget.
     Unfinished,
     /// A processor waits for a queue. No command gives it yet.
     Blocked,

@@ -218,6 +218,63 @@ fn cases(rt: HostRuntime) -> Result<(), Fail> {
     Ok(())
 }
 
+// Images, and the status and the report of their runs, worked by hand.
+const STOPS: [(&str, Status, &str); 7] = [
+    // S32I a2, a0, 0: a store to the text
+    (
+        "22 60 00",
+        Status::Trapped,
+        "core main retired 0 trapped StoreText pc 00000000\n  sar 0\nend trapped\n",
+    ),
+    // MOVI a1, -1; L32I a2, a1, 0
+    (
+        "12 AF FF 22 21 00",
+        Status::Trapped,
+        "core main retired 1 trapped Unaligned pc 00000003\n  sar 0\n  a1 FFFFFFFF\nend trapped\n",
+    ),
+    // MOVI a1, -4; L32I a2, a1, 0
+    (
+        "12 AF FC 22 21 00",
+        Status::Trapped,
+        "core main retired 1 trapped BadAddress pc 00000003\n  sar 0\n  a1 FFFFFFFC\nend trapped\n",
+    ),
+    // a jump to itself
+    (
+        "06 FF FF",
+        Status::Unfinished,
+        "core main retired 1000000 spent budget 1000000 pc 00000000\n  sar 0\nend unfinished\n",
+    ),
+    // SSAI 5; a jump to itself
+    (
+        "00 45 40 06 FF FF",
+        Status::Unfinished,
+        "core main retired 1000000 spent budget 1000000 pc 00000003\n  sar 5\nend unfinished\n",
+    ),
+    // MOVI a2, 160; SSAI 5; SRL a3, a2; SIMCALL
+    (
+        "22 A0 A0 00 45 40 20 30 91 00 51 00",
+        Status::Done,
+        "core main retired 4 halted pc 0000000C\n  sar 5\n  a2 000000A0\n  a3 00000005\nend halted\n",
+    ),
+    // MOVI a2, 5; MOVI a3, 0; then ADD a3, a3, a2; ADDI a2, a2, -1; BNEZ a2 back to the ADD; SIMCALL
+    (
+        "22 A0 05 32 A0 00 20 33 80 22 C2 FF 56 62 FF 00 51 00",
+        Status::Done,
+        "core main retired 18 halted pc 00000012\n  sar 0\n  a3 0000000F\nend halted\n",
+    ),
+];
+
+#[test]
+fn stops(rt: HostRuntime) -> Result<(), Fail> {
+    for (text, status, report) in STOPS {
+        let (found, out, err) = call(&rt, text.as_bytes(), RUN, &NO_FAULTS)?;
+        assert_eq!(rt; found, status);
+        assert_eq!(rt; out.written(), report.as_bytes());
+        assert_eq!(rt; err.written(), b"".as_slice());
+    }
+    Ok(())
+}
+
 // So many times this byte.
 fn filled(alloc: Global, byte: u8, count: usize) -> Result<Vec<u8>, Fail> {
     Ok(vec![in alloc; byte; count]?)

@@ -1,5 +1,5 @@
 ghost use Rattle.tie_top.specs.Answers.{called, IsRight, IsGiven, IsComplete};
-ghost use Rattle.tie_top.specs.Answers.{UsageIsRight, ReadFaultIsRight, TooLongIsRight, TextRefusedIsRight, DoneIsRight, TrappedIsRight, WriteFaultIsRight};
+ghost use Rattle.tie_top.specs.Answers.{UsageIsRight, ReadFaultIsRight, TooLongIsRight, TextRefusedIsRight, DoneIsRight, TrappedIsRight, UnfinishedIsRight, WriteFaultIsRight};
 
 use crate::delivery::deliver;
 use crate::judgement::judge;
@@ -37,6 +37,8 @@ pub fn tie_top<R: Threads, S: Shelf, O: Sink, G: Gate>(
     ensures done { DoneIsRight (called S.holds S.faults O.written O.faults
         words.now shelf.old shelf.new out.old out.new err.old err.new result) }
     ensures trapped { TrappedIsRight (called S.holds S.faults O.written O.faults
+        words.now shelf.old shelf.new out.old out.new err.old err.new result) }
+    ensures unfinished { UnfinishedIsRight (called S.holds S.faults O.written O.faults
         words.now shelf.old shelf.new out.old out.new err.old err.new result) }
     ensures write_fault { WriteFaultIsRight (called S.holds S.faults O.written O.faults
         words.now shelf.old shelf.new out.old out.new err.old err.new result) }

@@ -1,0 +1,6 @@
+pub mod Lists
+pub mod NameLemmas
+pub mod FormatLemmas
+pub mod SlotLemmas
+pub mod Example
+mod Rows

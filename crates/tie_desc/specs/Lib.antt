@@ -1,0 +1,11 @@
+pub mod Names
+pub mod KeptName
+pub mod Mnemonics
+pub mod Description
+pub mod Operands
+pub mod Slots
+pub mod Invariant
+pub mod Spots
+pub mod Spelling
+pub mod Fetching
+pub mod Example

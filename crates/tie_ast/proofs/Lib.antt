@@ -1,0 +1,5 @@
+pub mod Steps
+pub mod Turns
+pub mod Clamp
+pub mod Scan
+pub mod ParseLaw

@@ -1,0 +1,13 @@
+pub mod Shapes
+pub mod Readers
+pub mod CommaLists
+pub mod Tokens
+pub mod ExprReads
+pub mod ItemReads
+pub mod DeclReads
+pub mod ExprAgain
+pub mod ItemAgain
+pub mod DeclAgain
+pub mod Faults
+pub mod Places
+pub mod Rows

@@ -1,0 +1,12 @@
+pub mod Digits
+pub mod Fits
+pub mod Limits
+pub mod CountLimits
+pub mod Layers
+pub mod Forms
+pub mod Setting
+pub mod Tables
+pub mod CountNames
+pub mod KeptCounts
+pub mod KeptFunctions
+pub mod Rows

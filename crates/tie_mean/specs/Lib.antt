@@ -1,0 +1,9 @@
+pub mod Literals
+pub mod Scope
+pub mod Sizes
+pub mod Names
+pub mod Setters
+pub mod Counts
+pub mod Values
+pub mod Operations
+pub mod CountScope

@@ -1,0 +1,11 @@
+pub mod Least
+pub mod Parts
+pub mod Names
+pub mod Declarations
+pub mod Bodies
+pub mod Schedules
+pub mod RuleBook
+pub mod Sorts
+pub mod Widths
+pub mod Answers
+pub mod NameSets

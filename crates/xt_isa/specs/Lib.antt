@@ -3,3 +3,4 @@ pub mod Constants
 pub mod Formats
 pub mod Table
 pub mod Reading
+pub mod Families

@@ -2,19 +2,11 @@ ghost use Rattle.std.specs.Prelude.{◌≡◌, ◌<◌, IfSome, Some};
 ghost use Rattle.xt_isa.specs.Reading.{read_fields};
 ghost use Rattle.xt_isa.specs.Table.{Fits, Spells};
 
-mod branches;
-mod jumps;
-mod lsai;
-mod qrst;
-mod rst0;
-mod rst1;
-mod rst3;
-
 use crate::Inst;
-use branches::read_b;
-use jumps::{read_calls, read_l32r, read_si};
-use lsai::read_lsai;
-use qrst::read_qrst;
+use crate::families::branches::read_b;
+use crate::families::choices::read_qrst;
+use crate::families::jumps::{read_calls, read_si};
+use crate::families::memory::{read_l32r, read_lsai};
 
 // The six fields of a word, four bits each.
 #[derive(Clone, Copy)]

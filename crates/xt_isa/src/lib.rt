@@ -7,6 +7,7 @@
 mod constants;
 mod decode;
 mod encode;
+mod families;
 mod formats;
 mod instruction;
 mod laws;

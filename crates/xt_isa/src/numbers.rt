@@ -1,4 +1,4 @@
-ghost use Rattle.std.specs.Prelude.{◌≡◌, ◌<◌, ◌≤◌, ◌*◌, ◌^◌, ◌↔◌, IsTrue};
+ghost use Rattle.std.specs.Prelude.{◌≡◌, ◌<◌, ◌≤◌, ◌*◌, ◌^◌, ◌↔◌, IsTrue, unsigned_abs};
 ghost use Rattle.xt_isa.specs.Numbers.{IsBackward, IsBetween, IsMultiple, IsSigned, signed_value, twos_complement};
 
 // Whether a value is from low to high, both of them taken.
@@ -56,4 +56,20 @@ pub fn signed_value(half: u32, code: u32) -> i32
     } else {
         code as i32 - 2 * half as i32
     }
+}
+
+// A number that a byte holds.
+pub fn byte_of(value: i32) -> u8
+    requires { IsBetween 0 255 value }
+    ensures { result ≡ unsigned_abs value }
+{
+    value as u8
+}
+
+// The code of a number of eight bits with sign.
+pub fn near(value: i32) -> u8
+    requires { IsSigned 128 value }
+    ensures { result ≡ twos_complement 128 value }
+{
+    twos_complement(128, value) as u8
 }

@@ -10,3 +10,4 @@ pub mod CountNames
 pub mod KeptCounts
 pub mod KeptFunctions
 pub mod Rows
+pub mod Sets

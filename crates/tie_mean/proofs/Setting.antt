@@ -1,5 +1,5 @@
 -- What the last setting of a name says of what the name stands for.
-use Rattle.std.proofs.Common.{◌≡◌, ℕ, zero, suc, ◌-◌, ◌<◌, Bool, true, false, ◌&&◌, not, if◌then◌else◌, List, length, get_or, Option, Some, None, refl, ap, sym, subst, ◌∙◌, arith}
+use Rattle.std.proofs.Common.{◌≡◌, ℕ, zero, suc, ◌<◌, Bool, true, false, ◌&&◌, not, if◌then◌else◌, List, length, get_or, Option, Some, None, refl, ap, sym, ◌∙◌}
 use Rattle.std.proofs.lemmas.Option.{slice_get_read}
 use Rattle.tie_mean.specs.Names.{Setting, setting, setting_of, setting_at, sets, has, is_named, behind, behind_setting, set_to, last_set}
 use Rattle.tie_mean.specs.Setters.{setter, setter_or, give_setting, give_at}
@@ -18,14 +18,6 @@ pub setter_step : (items : List Item) (k : ℕ) (name : List ℕ) (item : Item) 
     → setter items (suc k) name ≡ (if b then Some k else setter items k name)
 setter_step items k name item b h e is =
     setter_or_is (setting_at items k) k name (setter items k name) b (ap (sets name) (setting_read items k item h e) ∙ is)
-
--- one item back
-pub setter_back : (items : List Item) (k : ℕ) (name : List ℕ) (item : Item) (b : Bool) → 0 < k → k - 1 < length items → item ≡ get_or items (k - 1) item → sets name (setting item) ≡ b
-    → setter items k name ≡ (if b then Some (k - 1) else setter items (k - 1) name)
-setter_back items k name item b h within e is =
-    let back : suc (k - 1) ≡ k = omega arith in
-    let P : ℕ → Type 0 = λ n. setter items n name ≡ (if b then Some (k - 1) else setter items (k - 1) name) in
-    subst P back (setter_step items (k - 1) name item b within e is)
 
 set_behind : {A : Type 0} (inputs : List (List ℕ)) (give : (List ℕ → A) → Leaf → Expr → A) (first : List ℕ → A) (items : List Item) (k : ℕ) (name : List ℕ) → has inputs name ≡ false
     → (before : Option ℕ) → behind inputs give first items k name ≡ give_at give (behind inputs give first items) items before (first name)

@@ -1,14 +1,17 @@
 -- Counts behind the first items of a body, as they are kept.
 use Rattle.std.specs.Borrow.{Bor}
-use Rattle.std.specs.Prelude.{◌≡◌, ℕ, ◌+◌, ◌<◌, ◌≤◌, if◌then◌else◌, List, [], ◌∷◌, length, map, slice_index, Option, Some, None, option_map, unwrap_or, slice_get}
-use Rattle.tie_mean.specs.Names.{is_named, table_named, Setting, setting_at}
-use Rattle.tie_mean.specs.Setters.{leaf_names, give_setting}
+use Rattle.std.specs.Prelude.{◌≡◌, ℕ, ◌+◌, if◌then◌else◌, List, [], ◌∷◌, map, Option, Some, None, option_map, unwrap_or, slice_get}
+use Rattle.std.specs.BTreeMap.{BTreeMap}
+use Rattle.tie_mean.specs.Names.{is_named, table_named, tables, Setting, setting_at}
+use Rattle.tie_mean.specs.Setters.{setter, leaf_names, give_setting}
+use Rattle.tie_mean.specs.Kept.{kept}
 use Rattle.tie_mean.specs.Counts.{Counted, Counts, Seen, counts_of, value_count, counts_behind, seen_behind, body_count, limited}
 use Rattle.tie_mean.specs.declared.scope.FunctionCount.{FunctionCount}
 use Rattle.tie_mean.specs.declared.scope.CountScope.{CountScope}
 use Rattle.tie_grammar.specs.declared.symbol.Leaf.{Leaf}
 use Rattle.tie_grammar.specs.declared.tree.Parameter.{Parameter}
 use Rattle.tie_grammar.specs.declared.tree.Function.{Function}
+use Rattle.tie_grammar.specs.declared.tree.Tree.{Tree}
 
 -- what a call of the last function of this name counts, or the given number
 abbrev pub call_in : List FunctionCount → List ℕ → ℕ → ℕ
@@ -32,7 +35,7 @@ abbrev pub names_in : CountScope → ℕ → List ℕ → ℕ
 names_in s k = counts_behind (counted_of s.what) (seen_in s) (leaf_names s.inputs.now) s.items.now k
 
 abbrev pub counts_in : CountScope → Counts
-counts_in s = counts_of (counted_of s.what) (seen_in s) (names_in s (length s.counts.now))
+counts_in s = counts_of (counted_of s.what) (seen_in s) (names_in s s.behind)
 
 -- the count of a value that is set behind k items, 0 where none is
 abbrev pub setting_count : CountScope → ℕ → Option Setting → ℕ
@@ -57,13 +60,20 @@ pub record IsFunction (count : FunctionCount) (seen : Seen) (f : Function) : Typ
   pub call : count.call ≡ limited (1 + body_count None seen f)
   pub times : count.times.items ≡ map (times_of seen f) f.parameters
 
--- all kept counts are right
+-- the names of a text's tables
+abbrev pub AreTables : List (Bor Leaf) → Tree → Type 0
+AreTables leaves t = leaf_names leaves ≡ map (λ x. x.name.bytes) (tables t)
+
+-- the count of what the item of a number sets, as it is kept
+abbrev pub kept_count : CountScope → Option ℕ → Option ℕ
+kept_count s at = option_map (λ k. limited (item_count s k)) at
+
+-- these are the counts of what names are last set to by the first k items
+abbrev pub AreCounts : CountScope → BTreeMap (Bor (List ℕ)) ℕ → ℕ → Type 0
+AreCounts s counts k = (name : List ℕ) → kept counts name ≡ kept_count s (setter s.items.now k name)
+
+-- all that is kept is right
 pub record IsRight (s : CountScope) : Type 0 where
   pub functions : AreFunctions s.functions.now (seen_in s)
-  pub within : length s.counts.now ≤ length s.items.now
-  pub kept : (k : ℕ) → k < length s.counts.now → slice_index s.counts.now k ≡ limited (item_count s k)
-
--- these are the counts of what the items set
-pub record AreCounts (s : CountScope) (counts : List ℕ) (n : ℕ) : Type 0 where
-  pub many : length counts ≡ n
-  pub each : (k : ℕ) → k < n → slice_index counts k ≡ limited (item_count s k)
+  pub tables : AreTables s.tables.now s.tree.now
+  pub counts : AreCounts s s.counts.now s.behind

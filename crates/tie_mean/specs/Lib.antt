@@ -7,3 +7,4 @@ pub mod Counts
 pub mod Values
 pub mod Operations
 pub mod CountScope
+pub mod Kept

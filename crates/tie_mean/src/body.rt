@@ -1,24 +1,26 @@
 //! The counts of bodies.
 
-ghost use Rattle.std.specs.Prelude.{◌≡◌, ◌+◌, ◌<◌, ◌≤◌, length, drop, map, sum, IfOk, slice_index, option_copied};
+ghost use Rattle.std.specs.Prelude.{◌≡◌, ℕ, List, Some, ◌+◌, ◌<◌, ◌≤◌, length, drop, map, sum, IfOk, OnOk, if◌then◌else◌, option_copied};
 ghost use Rattle.tie_mean.specs.Names as names;
 ghost use Rattle.tie_mean.specs.Counts as spec;
 ghost use Rattle.tie_mean.specs.Counts.{seen_behind};
 ghost use Rattle.tie_mean.specs.Setters.{leaf_names};
-ghost use Rattle.tie_mean.specs.CountScope.{IsRight, AreFunctions, AreCounts, counted_of, seen_in, setting_count, IsFunction, times_of};
+ghost use Rattle.tie_mean.specs.Kept as by_name;
+ghost use Rattle.tie_mean.specs.CountScope.{IsRight, AreFunctions, AreTables, AreCounts, counted_of, seen_in, setting_count, IsFunction, times_of};
 
 use crate::count::{bounded_count, count};
+use crate::kept::{keep, kept};
 use crate::memory::NoMemory;
-use crate::names::last_setter;
 use crate::scope::{CountScope, FunctionCount};
 use std::alloc::Global;
+use std::collections::BTreeMap;
 use tie_grammar::symbol::{Direction, Leaf};
 use tie_grammar::tree::{Decl, Function, Item, Operation, Parameter, Tree};
 
 /// The count of what an item sets behind the items whose counts the scope keeps, 0 where it sets nothing.
 fn item_count(scope: &CountScope, item: &Item) -> u32
     requires { IsRight scope.now }
-    ensures { result ≡ spec.limited (setting_count scope.now (length scope.now.counts.now) (names.setting item.now)) }
+    ensures { result ≡ spec.limited (setting_count scope.now scope.now.behind (names.setting item.now)) }
 {
     match item {
         Item::Wire(_, _) => 0,
@@ -26,46 +28,78 @@ fn item_count(scope: &CountScope, item: &Item) -> u32
     }
 }
 
-/// The counts of what each item of a body sets.
-pub fn item_counts(alloc: Global, body: &CountScope) -> Result<Vec<u32>, NoMemory>
-    requires { AreFunctions body.now.functions.now (seen_in body.now) }
-    ensures { IfOk result (λ counts. AreCounts body.now counts.items (length body.now.items.now)) }
+/// Keeps a count for the name that an item sets.
+fn keep_count<'t>(
+    counts: &mut BTreeMap<&'t [u8], u32>,
+    item: &'t Item,
+    count: u32,
+) -> Result<(), NoMemory>
+    ensures { OnOk result ((q : List ℕ) → by_name.kept counts.new q ≡ (if names.sets q (names.setting item.now) then Some count else by_name.kept counts.old q)) }
 {
-    let mut counts = Vec::new(alloc);
-    for item in body.items {
+    match item {
+        Item::Wire(_, _) => Ok(()),
+        Item::WireSet(_, name, _) | Item::Assign(name, _) => keep(counts, name, count),
+    }
+}
+
+/// The counts of what names are last set to by a body.
+pub fn last_counts<'t>(
+    alloc: Global,
+    body: &CountScope<'_, 't>,
+) -> Result<BTreeMap<&'t [u8], u32>, NoMemory>
+    requires functions { AreFunctions body.now.functions.now (seen_in body.now) }
+    requires tables { AreTables body.now.tables.now body.now.tree.now }
+    ensures { IfOk result (λ counts. AreCounts body.now counts (length body.now.items.now)) }
+{
+    let mut counts = BTreeMap::new(alloc);
+    for k in 0..body.items.len() {
+        let item = &body.items[k];
         let scope = CountScope {
             what: body.what,
             tree: body.tree,
             declarations: body.declarations,
             functions: body.functions,
+            tables: body.tables,
             inputs: body.inputs,
             items: body.items,
+            behind: k,
             counts: &counts,
         };
         let count = item_count(&scope, item);
-        counts.push(count)?;
+        keep_count(&mut counts, item, count)?;
     }
     Ok(counts)
 }
 
 /// The count of what a name is last set to.
-pub fn last_count(body: &CountScope, counts: &[u32], name: &Leaf) -> u32
+pub fn last_count(body: &CountScope, counts: &BTreeMap<&[u8], u32>, name: &Leaf) -> u32
     requires { AreCounts body.now counts.now (length body.now.items.now) }
     ensures { result ≡ spec.limited (spec.set_count (counted_of body.now.what) (seen_in body.now) (leaf_names body.now.inputs.now) body.now.items.now name.now.bytes) }
 {
-    match last_setter(body.items, body.items.len(), name) {
-        Some(at) => counts[at],
-        None => 0,
-    }
+    kept(counts, name).unwrap_or(0)
 }
 
 /// The count of what a body sets a name to.
 fn body_count(alloc: Global, body: &CountScope, name: &Leaf) -> Result<u32, NoMemory>
-    requires { AreFunctions body.now.functions.now (seen_in body.now) }
+    requires functions { AreFunctions body.now.functions.now (seen_in body.now) }
+    requires tables { AreTables body.now.tables.now body.now.tree.now }
     ensures { IfOk result (λ n. n ≡ spec.limited (spec.set_count (counted_of body.now.what) (seen_in body.now) (leaf_names body.now.inputs.now) body.now.items.now name.now.bytes)) }
 {
-    let counts = item_counts(alloc, body)?;
+    let counts = last_counts(alloc, body)?;
     Ok(last_count(body, &counts, name))
+}
+
+/// The names of the tables of a text.
+fn table_leaves(alloc: Global, tree: &Tree) -> Result<Vec<&Leaf>, NoMemory>
+    ensures { IfOk result (λ leaves. AreTables leaves.items tree.now) }
+{
+    let mut leaves = Vec::new(alloc);
+    for declaration in tree.declarations.as_slice() {
+        if let Decl::Table(table) = declaration {
+            leaves.push(&table.name)?;
+        }
+    }
+    Ok(leaves)
 }
 
 /// The names of some parameters.
@@ -89,21 +123,26 @@ fn function_body_count<'t>(
     tree: &'t Tree,
     declarations: usize,
     functions: &[FunctionCount<'t>],
+    tables: &[&'t Leaf],
     inputs: &[&'t Leaf],
     function: &'t Function,
 ) -> Result<u32, NoMemory>
     requires right { AreFunctions functions.now (seen_behind (names.table_named tree.now) tree.now.declarations declarations) }
+    requires tables { AreTables tables.now tree.now }
     requires inputs { leaf_names inputs.now ≡ names.parameter_names function.now }
     ensures { IfOk result (λ n. n ≡ spec.limited (spec.body_count (counted_of what.entry) (seen_behind (names.table_named tree.now) tree.now.declarations declarations) function.now)) }
 {
+    let none = BTreeMap::new(alloc);
     let body = CountScope {
         what,
         tree,
         declarations,
         functions,
+        tables,
         inputs,
         items: function.items.as_slice(),
-        counts: &[],
+        behind: 0,
+        counts: &none,
     };
     body_count(alloc, &body, &function.name)
 }
@@ -114,10 +153,12 @@ fn parameter_times<'t>(
     tree: &'t Tree,
     declarations: usize,
     functions: &[FunctionCount<'t>],
+    tables: &[&'t Leaf],
     inputs: &[&'t Leaf],
     function: &'t Function,
 ) -> Result<Vec<u32>, NoMemory>
     requires right { AreFunctions functions.now (seen_behind (names.table_named tree.now) tree.now.declarations declarations) }
+    requires tables { AreTables tables.now tree.now }
     requires inputs { leaf_names inputs.now ≡ names.parameter_names function.now }
     ensures { IfOk result (λ times. times.items ≡ map (times_of (seen_behind (names.table_named tree.now) tree.now.declarations declarations) function.now) function.now.parameters) }
 {
@@ -130,6 +171,7 @@ fn parameter_times<'t>(
             tree,
             declarations,
             functions,
+            tables,
             inputs,
             function,
         )?;
@@ -144,9 +186,11 @@ fn function_count<'t>(
     tree: &'t Tree,
     declarations: usize,
     functions: &[FunctionCount<'t>],
+    tables: &[&'t Leaf],
     function: &'t Function,
 ) -> Result<FunctionCount<'t>, NoMemory>
-    requires { AreFunctions functions.now (seen_behind (names.table_named tree.now) tree.now.declarations declarations) }
+    requires right { AreFunctions functions.now (seen_behind (names.table_named tree.now) tree.now.declarations declarations) }
+    requires tables { AreTables tables.now tree.now }
     ensures { IfOk result (λ count. IsFunction count (seen_behind (names.table_named tree.now) tree.now.declarations declarations) function.now) }
 {
     let inputs = parameter_leaves(alloc, function.parameters.as_slice())?;
@@ -156,10 +200,19 @@ fn function_count<'t>(
         tree,
         declarations,
         functions,
+        tables,
         &inputs,
         function,
     )?;
-    let times = parameter_times(alloc, tree, declarations, functions, &inputs, function)?;
+    let times = parameter_times(
+        alloc,
+        tree,
+        declarations,
+        functions,
+        tables,
+        &inputs,
+        function,
+    )?;
     Ok(FunctionCount {
         name: &function.name,
         call: bounded_count(1 + nodes),
@@ -181,12 +234,13 @@ fn function_of(declaration: &Decl) -> Option<&Function>
 pub fn function_counts(alloc: Global, tree: &Tree) -> Result<Vec<FunctionCount<'_>>, NoMemory>
     ensures { IfOk result (λ counts. AreFunctions counts.items (spec.operation_seen tree.now)) }
 {
+    let tables = table_leaves(alloc, tree)?;
     let mut functions = Vec::new(alloc);
     let declarations = tree.declarations.as_slice();
     for k in 0..declarations.len() {
         match function_of(&declarations[k]) {
             Some(function) => {
-                let count = function_count(alloc, tree, k, &functions, function)?;
+                let count = function_count(alloc, tree, k, &functions, &tables, function)?;
                 functions.push(count)?;
             }
             None => {}
@@ -229,7 +283,7 @@ pub fn operand_leaves(
 }
 
 /// The counts of what some names are last set to, together.
-fn total_count(body: &CountScope, counts: &[u32], leaves: &[&Leaf]) -> u32
+fn total_count(body: &CountScope, counts: &BTreeMap<&[u8], u32>, leaves: &[&Leaf]) -> u32
     requires { AreCounts body.now counts.now (length body.now.items.now) }
     ensures { result ≡ spec.limited (sum (map (spec.set_count (counted_of body.now.what) (seen_in body.now) (leaf_names body.now.inputs.now) body.now.items.now) (leaf_names leaves.now))) }
 {
@@ -252,15 +306,19 @@ pub fn operation_count<'t>(
 {
     let inputs = operand_leaves(alloc, operation, false)?;
     let outputs = operand_leaves(alloc, operation, true)?;
+    let tables = table_leaves(alloc, tree)?;
+    let none = BTreeMap::new(alloc);
     let body = CountScope {
         what: None,
         tree,
         declarations: tree.declarations.len(),
         functions,
+        tables: &tables,
         inputs: &inputs,
         items: operation.items.as_slice(),
-        counts: &[],
+        behind: 0,
+        counts: &none,
     };
-    let counts = item_counts(alloc, &body)?;
+    let counts = last_counts(alloc, &body)?;
     Ok(total_count(&body, &counts, &outputs))
 }

@@ -39,6 +39,7 @@ pub trait NameCounts {
 
     /// The name is that of a table.
     fn is_table(&self, name: &Leaf) -> bool
+        requires { right self.now }
         ensures { result ≡ (counts self.now).is_table name.now.bytes };
 }
 

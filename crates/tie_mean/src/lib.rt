@@ -3,6 +3,7 @@
 
 pub mod body;
 pub mod count;
+pub mod kept;
 pub mod literal;
 mod memory;
 pub mod names;

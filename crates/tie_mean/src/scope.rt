@@ -1,15 +1,16 @@
 //! What the names of a body count.
 
-ghost use Rattle.std.specs.Prelude.{◌≡◌, ◌+◌, ◌<◌, ◌≤◌, length, drop, map, IfOk, slice_index, slice_get, unwrap_or};
+ghost use Rattle.std.specs.Prelude.{◌≡◌, ◌+◌, ◌<◌, ◌≤◌, length, drop, map, IfOk, slice_get, unwrap_or};
 ghost use Rattle.tie_mean.specs.Names as names;
-ghost use Rattle.std.specs.List.{flat_map};
 ghost use Rattle.tie_mean.specs.Counts as spec;
-ghost use Rattle.tie_mean.specs.CountScope as kept;
+ghost use Rattle.tie_mean.specs.CountScope as scope;
 
 use crate::count::{NameCounts, bounded_count};
-use crate::names::{has, is_named, last_setter};
+use crate::kept::kept;
+use crate::names::{has, is_named};
+use std::collections::BTreeMap;
 use tie_grammar::symbol::Leaf;
-use tie_grammar::tree::{Decl, Item, Tree};
+use tie_grammar::tree::{Item, Tree};
 
 /// What a call of a function counts besides its arguments, and how often each argument counts.
 #[derive(Drop)]
@@ -28,29 +29,19 @@ pub struct CountScope<'a, 't> {
     /// So many declarations are seen.
     pub declarations: usize,
     pub functions: &'a [FunctionCount<'t>],
+    /// The names of the tables of the text.
+    pub tables: &'a [&'t Leaf],
     pub inputs: &'a [&'t Leaf],
     pub items: &'t [Item],
-    /// The counts of what the first items set.
-    pub counts: &'a [u32],
-}
-
-/// The name is that of a table.
-pub fn is_table(declarations: &[Decl], name: &Leaf) -> bool
-    ensures { result ≡ names.is_among (map names.table_declared (flat_map names.table_of declarations.now)) name.now.bytes }
-{
-    for declaration in declarations {
-        if let Decl::Table(table) = declaration {
-            if is_named(name, &table.name) {
-                return true;
-            }
-        }
-    }
-    false
+    /// So many items are behind.
+    pub behind: usize,
+    /// The counts of what names are last set to by those items.
+    pub counts: &'a BTreeMap<&'t [u8], u32>,
 }
 
 /// What a call of a function counts besides its arguments.
 fn call_in(functions: &[FunctionCount], name: &Leaf) -> u32
-    ensures { result ≡ kept.call_in functions.now name.now.bytes 1 }
+    ensures { result ≡ scope.call_in functions.now name.now.bytes 1 }
 {
     let mut found = 1;
     for function in functions {
@@ -70,7 +61,7 @@ fn times_at(times: &[u32], at: usize) -> u32
 
 /// How often the argument of a number counts.
 fn times_in(functions: &[FunctionCount], name: &Leaf, number: usize) -> u32
-    ensures { result ≡ kept.times_in functions.now name.now.bytes number 1 }
+    ensures { result ≡ scope.times_in functions.now name.now.bytes number 1 }
 {
     let mut found = 1;
     for function in functions {
@@ -83,7 +74,7 @@ fn times_in(functions: &[FunctionCount], name: &Leaf, number: usize) -> u32
 
 /// A name that nothing replaces.
 fn lone_name(what: Option<&Leaf>, name: &Leaf) -> u32
-    ensures { result ≡ spec.lone_name (kept.counted_of what.entry) name.now.bytes }
+    ensures { result ≡ spec.lone_name (scope.counted_of what.entry) name.now.bytes }
 {
     match what {
         None => 1,
@@ -110,8 +101,8 @@ impl NameCounts for CountScope<'_, '_> {
         if has(self.inputs, name) {
             return lone_name(self.what, name);
         }
-        match last_setter(self.items, self.counts.len(), name) {
-            Some(at) => bounded_count(self.nodes(1).saturating_add(self.counts[at])),
+        match kept(self.counts, name) {
+            Some(count) => bounded_count(self.nodes(1).saturating_add(count)),
             None => lone_name(self.what, name),
         }
     }
@@ -125,6 +116,6 @@ impl NameCounts for CountScope<'_, '_> {
     }
 
     fn is_table(&self, name: &Leaf) -> bool {
-        is_table(self.tree.declarations.as_slice(), name)
+        has(self.tables, name)
     }
 }

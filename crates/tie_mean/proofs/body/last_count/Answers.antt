@@ -1,15 +1,9 @@
-use Rattle.std.proofs.Common.{◌∙◌, sym, ap, Some, None}
-use Rattle.tie_mean.specs.Counts as spec
-use Rattle.tie_mean.proofs.KeptCounts.{set_count_at}
+use Rattle.std.proofs.Common.{◌∙◌, ap, ℕ, Option}
+use Rattle.std.specs.Option.{unwrap_or}
+use Rattle.tie_mean.proofs.KeptCounts.{last_count_is}
 use Rattle.tie_mean.proofs.body.last_count.Goals as goal
 
-pub returns-in-Some : goal.returns-in-Some
-returns-in-Some c =
-    let s = c.args.body.now in
-    c.requires.each c.in-Some.at c.in-Some.ensures.before
-    ∙ sym (ap spec.limited (set_count_at s c.args.name.now.bytes (Some c.in-Some.at) (sym c.last_setter.ensures.is ∙ c.in-Some.is)))
-
-pub returns-in-None : goal.returns-in-None
-returns-in-None c =
-    let s = c.args.body.now in
-    sym (ap spec.limited (set_count_at s c.args.name.now.bytes None (sym c.last_setter.ensures.is ∙ c.in-None.is)))
+pub returns : goal.returns
+returns c =
+    let name = c.args.name.now.bytes in
+    c.unwrap_or.ensures ∙ ap (λ (o : Option ℕ). unwrap_or o 0) (c.kept.ensures ∙ c.requires name) ∙ last_count_is c.args.body.now name

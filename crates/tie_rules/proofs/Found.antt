@@ -1,5 +1,5 @@
 -- The width of the first of a name.
-use Rattle.std.proofs.Common.{◌≡◌, ℕ, List, [], ◌∷◌, ◌++◌, Option, Some, Bool, true, false, cond, refl, ap, sym, ◌∙◌, map, unwrap_or, ◌+◌, ◌<◌, drop, length, get_or}
+use Rattle.std.proofs.Common.{◌≡◌, ℕ, List, [], ◌∷◌, ◌++◌, Option, Some, None, Bool, true, false, cond, refl, ap, sym, ◌∙◌, map, unwrap_or, ◌+◌, ◌<◌, drop, take, length, get_or, append_assoc}
 use Rattle.std.specs.List.{flat_map}
 use Rattle.std.proofs.lemmas.List.Concat.{flat_map_single}
 use Rattle.std.proofs.lemmas.List.{map-append}
@@ -8,7 +8,7 @@ use Rattle.tie_mean.specs.Names.{Declared, is_named, width_in, functions, functi
 use Rattle.tie_grammar.specs.declared.tree.Function.{Function}
 use Rattle.tie_grammar.specs.declared.tree.Operation.{Operation}
 use Rattle.tie_grammar.specs.declared.tree.Tree.{Tree}
-use Rattle.tie_rules.proofs.Places.{next_of}
+use Rattle.tie_rules.proofs.Places.{next_of, taken_of}
 use Rattle.tie_rules.specs.Widths.{found, either, of_table, of_function, of_parameter, of_argument, of_link, one}
 
 pub found-append : (xs ys : List Declared) (name : List ℕ) → found (xs ++ ys) name ≡ either (found xs name) (found ys name)
@@ -26,6 +26,14 @@ found_width (x ∷ xs) name = by_test (is_named name x.name) (found_width xs nam
     by_test : (b : Bool) → unwrap_or (found xs name) 0 ≡ limited (width_in xs name) → unwrap_or (cond b (Some (limited x.width)) (found xs name)) 0 ≡ limited (cond b x.width (width_in xs name))
     by_test true again = refl
     by_test false again = again
+
+append_none : (xs : List Declared) → xs ++ [] ≡ xs
+append_none [] = refl
+append_none (x ∷ xs) = ap (λ ys. x ∷ ys) (append_none xs)
+
+flat_map-snoc : {A : Type 0} (d : A → List Declared) (xs : List A) (x : A) → flat_map d (xs ++ x ∷ []) ≡ flat_map d xs ++ d x
+flat_map-snoc d [] x = append_none (d x)
+flat_map-snoc d (y ∷ ys) x = ap (λ zs. d y ++ zs) (flat_map-snoc d ys x) ∙ sym (append_assoc (d y) (flat_map d ys) (d x))
 
 map_in : {A B C : Type 0} (g : B → C) (f : A → List B) (xs : List A) → flat_map (λ x. map g (f x)) xs ≡ map g (flat_map f xs)
 map_in g f [] = refl
@@ -54,6 +62,17 @@ seen_operation t o name =
     ap (λ (xs : List Declared). either (either (found xs name) (found (flat_map (of_link t) o.links) name)) (found (wires o.items) name)) (flat_map_single (argument_declared t) o.arguments)
     ∙ ap (λ (xs : List Declared). either (either (found (map (argument_declared t) o.arguments) name) (found xs name)) (found (wires o.items) name)) (flat_map_single (link_width t) o.links)
     ∙ sym (three (map (argument_declared t) o.arguments) (map (link_width t) o.links) (wires o.items) name)
+
+either_assoc : (a b c : Option ℕ) → either (either a b) c ≡ either a (either b c)
+either_assoc None b c = refl
+either_assoc (Some a) b c = refl
+
+-- the widths of one more of several things, behind what is kept
+pub keep_next : {A : Type 0} (d : A → List Declared) (q : List ℕ) (xs : List A) (i : ℕ) (x : A) (first before after : Option ℕ) → i < length xs → x ≡ get_or xs i x
+    → before ≡ either first (found (flat_map d (take i xs)) q) → after ≡ either before (found (d x) q) → after ≡ either first (found (flat_map d (take (i + 1) xs)) q)
+keep_next d q xs i x first before after h e was is =
+    is ∙ ap (λ o. either o (found (d x) q)) was ∙ either_assoc first (found (flat_map d (take i xs)) q) (found (d x) q)
+    ∙ ap (either first) (sym (found-append (flat_map d (take i xs)) (d x) q) ∙ ap (λ ys. found ys q) (sym (flat_map-snoc d (take i xs) x) ∙ ap (flat_map d) (taken_of xs i x h e)))
 
 -- one more of several things
 pub among_next : {A : Type 0} (d : A → List Declared) (name : List ℕ) (xs : List A) (i : ℕ) (x : A) (total : Option ℕ) → i < length xs → x ≡ get_or xs i x

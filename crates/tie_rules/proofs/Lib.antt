@@ -4,3 +4,6 @@ pub mod Found
 pub mod Places
 pub mod Shapes
 pub mod Upper
+pub mod NamedItems
+pub mod SlotLists
+pub mod Counting

@@ -1,23 +1,30 @@
 -- A name that joins a set, and the things before one more.
 use Rattle.std.specs.Borrow.{Bor}
-use Rattle.std.proofs.Common.{◌≡◌, ℕ, List, [], ◌∷◌, ◌++◌, Bool, true, false, cond, ◌||◌, Option, Some, None, refl, ap, sym, ◌∙◌, ◌+◌, ◌<◌, take, length, get_or}
+use Rattle.std.proofs.Common.{◌≡◌, ℕ, List, [], ◌∷◌, ◌++◌, Bool, true, false, ◌||◌, Option, Some, None, refl, ap, sym, ◌∙◌, ◌+◌, ◌<◌, take, length, get_or}
 use Rattle.std.specs.List.{list_any}
 use Rattle.std.specs.BTreeSet.{BTreeSet}
 use Rattle.tie_grammar.specs.declared.symbol.Leaf.{Leaf}
 use Rattle.tie_rules.specs.Least.{behind_from}
 use Rattle.tie_rules.specs.Names.{declared_name}
 use Rattle.tie_rules.specs.Declarations.{doubled_at, doubled_name, short_of, short_name_of, short_name_at}
-use Rattle.tie_rules.specs.NameSets.{has_name, again_of, at_again, held, held_name, doubled_by, doubled_here, short_by, short_here}
+use Rattle.tie_mean.specs.Kept.{met}
+use Rattle.tie_rules.specs.NameSets.{has_name, again_of, at_again, held_name, doubled_by, doubled_here, short_by, short_here}
 use Rattle.tie_grammar.specs.declared.tree.Decl.{Decl}
 use Rattle.tie_rules.proofs.Places.{taken_of}
-
-pub cond_or : (b c : Bool) → cond b true c ≡ (b || c)
-cond_or true c = refl
-cond_or false c = refl
 
 or_none : (b : Bool) → (b || false) ≡ b
 or_none true = refl
 or_none false = refl
+
+pub or_assoc : (a b c : Bool) → (a || (b || c)) ≡ ((a || b) || c)
+or_assoc true b c = refl
+or_assoc false b c = refl
+
+pub or_comm : (a b : Bool) → (a || b) ≡ (b || a)
+or_comm true true = refl
+or_comm true false = refl
+or_comm false true = refl
+or_comm false false = refl
 
 or_last : (a b c : Bool) → (a || (b || c)) ≡ (b || (a || c))
 or_last true true c = refl
@@ -33,7 +40,7 @@ pub any_next : {A : Type 0} (p : A → Bool) (xs : List A) (i : ℕ) (x : A) →
 any_next p xs i x h e = sym (any_push p (take i xs) x) ∙ ap (list_any p) (taken_of xs i x h e)
 
 -- what the set holds is what stands before
-pub held_again : {A : Type 0} (name : A → Option Leaf) (s : BTreeSet (Bor (List ℕ))) (before : List A) → ((q : List ℕ) → held s q ≡ list_any (has_name name q) before)
+pub held_again : {A : Type 0} (name : A → Option Leaf) (s : BTreeSet (Bor (List ℕ))) (before : List A) → ((q : List ℕ) → met s q ≡ list_any (has_name name q) before)
     → (o : Option Leaf) → held_name s o ≡ again_of name before o
 held_again name s before h None = refl
 held_again name s before h (Some leaf) = h leaf.bytes

@@ -1,8 +1,8 @@
 -- The least place of several lists.
-use Rattle.std.proofs.Common.{◌≡◌, ℕ, min, List, [], ◌∷◌, ◌++◌, Option, Some, None, refl, ap, sym, ◌∙◌, arith, ◌+◌, ◌<◌, drop, take, length, get_or}
+use Rattle.std.proofs.Common.{◌≡◌, ℕ, min, Bool, true, false, ◌||◌, List, [], ◌∷◌, ◌++◌, Option, Some, None, refl, ap, sym, ◌∙◌, arith, ◌+◌, ◌<◌, drop, take, length, get_or}
 use Rattle.std.specs.List.{flat_map}
 use Rattle.std.proofs.lemmas.Grind.{common_steps}
-use Rattle.tie_rules.specs.Least.{earlier, least, behind_from}
+use Rattle.tie_rules.specs.Least.{earlier, least, when, behind, behind_from}
 
 pub earlier_none : (a : Option ℕ) → earlier a None ≡ a
 earlier_none None = refl
@@ -47,3 +47,48 @@ behind_next f found xs i x total h e inv =
     (ap (behind_from f (take i xs)) (next_of xs i x h e)
     ∙ ap (λ ys. f (take i xs) x ++ behind_from f ys (drop (i + 1) xs)) (taken_of xs i x h e))
     inv
+
+-- places that are joined in another way
+pub least_joined : (a b c : List ℕ) → earlier (least (a ++ b)) (least c) ≡ least (a ++ (b ++ c))
+least_joined a b c = ap (λ o. earlier o (least c)) (least_append a b) ∙ earlier_assoc (least a) (least b) (least c) ∙ ap (earlier (least a)) (sym (least_append b c)) ∙ sym (least_append a (b ++ c))
+
+earlier_comm : (a b : Option ℕ) → earlier a b ≡ earlier b a
+earlier_comm None b = sym (earlier_none b)
+earlier_comm (Some a) None = refl
+earlier_comm (Some a) (Some b) = let e : min a b ≡ min b a = omega arith in ap Some e
+
+-- two pairs, exchanged in the middle
+pub earlier_four : (a b c d : Option ℕ) → earlier (earlier a b) (earlier c d) ≡ earlier (earlier a c) (earlier b d)
+earlier_four a b c d =
+    earlier_assoc a b (earlier c d) ∙ ap (earlier a) (sym (earlier_assoc b c d) ∙ ap (λ o. earlier o d) (earlier_comm b c) ∙ earlier_assoc c b d) ∙ sym (earlier_assoc a c (earlier b d))
+
+-- a rule that is two rules at each of some things
+split_from : {A : Type 0} (f g h : List A → A → List ℕ) → ((before : List A) (x : A) → least (f before x) ≡ earlier (least (g before x)) (least (h before x)))
+    → (before xs : List A) → least (behind_from f before xs) ≡ earlier (least (behind_from g before xs)) (least (behind_from h before xs))
+split_from f g h two before [] = refl
+split_from f g h two before (x ∷ xs) =
+    let more = before ++ x ∷ [] in
+    least_append (f before x) (behind_from f more xs)
+    ∙ ap (λ o. earlier o (least (behind_from f more xs))) (two before x)
+    ∙ ap (earlier (earlier (least (g before x)) (least (h before x)))) (split_from f g h two more xs)
+    ∙ earlier_four (least (g before x)) (least (h before x)) (least (behind_from g more xs)) (least (behind_from h more xs))
+    ∙ ap (λ o. earlier o (earlier (least (h before x)) (least (behind_from h more xs)))) (sym (least_append (g before x) (behind_from g more xs)))
+    ∙ ap (earlier (least (behind_from g before (x ∷ xs)))) (sym (least_append (h before x) (behind_from h more xs)))
+
+pub behind_split : {A : Type 0} (f g h : List A → A → List ℕ) → ((before : List A) (x : A) → least (f before x) ≡ earlier (least (g before x)) (least (h before x)))
+    → (xs : List A) → least (behind f xs) ≡ earlier (least (behind g xs)) (least (behind h xs))
+behind_split f g h two xs = split_from f g h two [] xs
+
+flat_from : {A : Type 0} (f : A → List ℕ) (before xs : List A) → behind_from (λ before x. f x) before xs ≡ flat_map f xs
+flat_from f before [] = refl
+flat_from f before (x ∷ xs) = ap (λ ps. f x ++ ps) (flat_from f (before ++ x ∷ []) xs)
+
+-- a rule that doesn't look at those before
+pub behind_flat : {A : Type 0} (f : A → List ℕ) (xs : List A) → behind (λ before x. f x) xs ≡ flat_map f xs
+behind_flat f xs = flat_from f [] xs
+
+-- two tests of one place
+pub when_or : (a b : Bool) (p : ℕ) → least (when (a || b) p) ≡ earlier (least (when a p)) (least (when b p))
+when_or true true p = let e : p ≡ min p p = omega arith in ap Some e
+when_or true false p = refl
+when_or false b p = refl

@@ -9,3 +9,4 @@ pub mod Sorts
 pub mod Widths
 pub mod Answers
 pub mod NameSets
+pub mod Tallies

@@ -1,5 +1,6 @@
 -- The width of a name as code finds it: none, or one beyond which widths aren't told apart.
 use Rattle.std.specs.Prelude.{ℕ, List, [], ◌∷◌, map, Option, Some, None, if◌then◌else◌}
+use Rattle.tie_mean.specs.Kept.{first_of_two}
 use Rattle.tie_mean.specs.Sizes.{limited}
 use Rattle.tie_mean.specs.Names.{Declared, is_named, parameter_declared, argument_declared, link_width, table_of, table_declared, function_of, function_declared}
 use Rattle.tie_grammar.specs.declared.tree.Parameter.{Parameter}
@@ -14,8 +15,7 @@ found (x ∷ xs) name = if is_named name x.name then Some (limited x.width) else
 
 -- the first of two answers
 abbrev pub either : Option ℕ → Option ℕ → Option ℕ
-either None b = b
-either (Some a) b = Some a
+either a b = first_of_two a b
 
 abbrev pub of_parameter : Parameter → List Declared
 of_parameter x = parameter_declared x ∷ []

@@ -1,4 +1,4 @@
-//! Rules 1 to 14: declarations.
+//! Rules 1, 2, 5 to 12 and 14: declarations.
 
 ghost use Rattle.std.specs.Prelude.{◌≡◌, ◌==◌, ◌≤◌, ◌<◌, nat_lt, nat_le, not, IfOk, option_copied, length, List};
 ghost use Rattle.std.specs.List.{list_any, list_all};
@@ -9,12 +9,10 @@ ghost use Rattle.tie_rules.specs.Declarations as rule;
 ghost use Rattle.tie_rules.specs.NameSets as met;
 
 use crate::again::{JudgeAgain, least_again};
-use crate::each::{Judge, JudgeBehind, Test, count, least_behind, least_in, some};
+use crate::each::{Judge, JudgeBehind, Test, least_behind, least_in, some};
 use crate::least::{earlier, when};
 use crate::mnemonics::{is_core_mnemonic, is_slot_core};
-use crate::names::{
-    Sort, among, body, declared_name, has, is_operation, is_text, listed, short_of,
-};
+use crate::names::{Sort, body, declared_name, has, is_operation, is_text, listed, short_of};
 use crate::parts::least_over;
 use std::alloc::Global;
 use tie_grammar::symbol::Leaf;
@@ -29,7 +27,7 @@ pub fn value(leaf: &Leaf) -> u128
     number(leaf.bytes.as_slice())
 }
 
-fn at_name(name: Option<&Leaf>, broken: bool) -> Option<u32>
+pub fn at_name(name: Option<&Leaf>, broken: bool) -> Option<u32>
     ensures { result ≡ spec.least (rule.at_name (option_copied name.entry) broken) }
 {
     match name {
@@ -133,127 +131,6 @@ pub fn short_name(alloc: Global, tree: &Tree) -> Result<Option<u32>, NoMemory>
     ensures { IfOk result (λ place. place ≡ spec.least (rule.short_name tree.now)) }
 {
     least_again(alloc, &ShortName, tree.declarations.as_slice())
-}
-
-// ---- 3
-
-fn limit_of(decl: &Decl) -> Option<usize>
-    ensures { result ≡ rule.limit_of decl.now }
-{
-    match decl {
-        Decl::State(_) => Some(32),
-        Decl::Regfile(_) => Some(8),
-        Decl::QueueIn(_) => Some(8),
-        Decl::QueueOut(_) => Some(8),
-        Decl::Table(_) => Some(32),
-        Decl::ImmediateRange(_) => Some(32),
-        Decl::Function(_) => Some(64),
-        Decl::Operation(_) => None,
-        Decl::Schedule(_) => Some(64),
-        Decl::Format(_) => Some(16),
-        Decl::SlotOpcodes(_) => None,
-    }
-}
-
-fn is_format_of(width: &Leaf, decl: &Decl) -> bool
-    ensures { result ≡ rule.is_format_of width.now decl.now }
-{
-    match decl {
-        Decl::Format(x) => value(width) == value(&x.width),
-        _ => false,
-    }
-}
-
-/// Two declarations that are counted together.
-#[derive(Clone, Copy)]
-struct SameSort<'a> {
-    decl: &'a Decl,
-}
-
-impl Test<Decl> for SameSort<'_> {
-    ghost use Rattle.tie_rules.specs.Declarations.{same_sort};
-
-    ghost holds = { λ s. same_sort s.decl.now };
-
-    fn holds_of(&self, other: &Decl) -> bool {
-        match self.decl {
-            Decl::State(_) => matches!(other, Decl::State(_)),
-            Decl::Regfile(_) => matches!(other, Decl::Regfile(_)),
-            Decl::QueueIn(_) => matches!(other, Decl::QueueIn(_)),
-            Decl::QueueOut(_) => matches!(other, Decl::QueueOut(_)),
-            Decl::Table(_) => matches!(other, Decl::Table(_)),
-            Decl::ImmediateRange(_) => matches!(other, Decl::ImmediateRange(_)),
-            Decl::Function(_) => matches!(other, Decl::Function(_)),
-            Decl::Operation(_) => false,
-            Decl::Schedule(_) => matches!(other, Decl::Schedule(_)),
-            Decl::Format(x) => is_format_of(&x.width, other),
-            Decl::SlotOpcodes(_) => false,
-        }
-    }
-}
-
-fn is_full(limit: Option<usize>, n: usize) -> bool
-    ensures { result ≡ rule.is_full limit n }
-{
-    match limit {
-        Some(limit) => n == limit,
-        None => false,
-    }
-}
-
-#[derive(Clone, Copy)]
-struct TooMany;
-
-impl JudgeBehind<Decl> for TooMany {
-    ghost use Rattle.tie_rules.specs.Declarations.{too_many_at};
-
-    ghost places = { λ _. too_many_at };
-
-    fn judge(&self, before: &[Decl], decl: &Decl) -> Option<u32> {
-        let n = count(&SameSort { decl }, before);
-        at_name(declared_name(decl), is_full(limit_of(decl), n))
-    }
-}
-
-pub fn too_many(tree: &Tree) -> Option<u32>
-    ensures { result ≡ spec.least (rule.too_many tree.now) }
-{
-    least_behind(&TooMany, tree.declarations.as_slice())
-}
-
-// ---- 4
-
-#[derive(Clone, Copy)]
-struct IsOperation;
-
-impl Test<Decl> for IsOperation {
-    ghost use Rattle.tie_rules.specs.Names.{is_operation};
-
-    ghost holds = { λ _. is_operation };
-
-    fn holds_of(&self, decl: &Decl) -> bool {
-        is_operation(decl)
-    }
-}
-
-#[derive(Clone, Copy)]
-struct TooManyOpcodes;
-
-impl JudgeBehind<Decl> for TooManyOpcodes {
-    ghost use Rattle.tie_rules.specs.Declarations.{too_many_opcodes_at};
-
-    ghost places = { λ _. too_many_opcodes_at };
-
-    fn judge(&self, before: &[Decl], decl: &Decl) -> Option<u32> {
-        let full = is_operation(decl) && count(&IsOperation, before) == 32;
-        at_name(declared_name(decl), full)
-    }
-}
-
-pub fn too_many_opcodes(tree: &Tree) -> Option<u32>
-    ensures { result ≡ spec.least (rule.too_many_opcodes tree.now) }
-{
-    least_behind(&TooManyOpcodes, tree.declarations.as_slice())
 }
 
 // ---- 5
@@ -687,60 +564,6 @@ pub fn slot_count(tree: &Tree) -> Option<u32>
     ensures { result ≡ spec.least (rule.slot_count tree.now) }
 {
     least_in(&SlotCount, tree.declarations.as_slice())
-}
-
-// ---- 13
-
-#[derive(Clone, Copy)]
-struct SlotOf<'a> {
-    tree: &'a Tree,
-    before: &'a [Decl],
-}
-
-impl JudgeBehind<Leaf> for SlotOf<'_> {
-    ghost use Rattle.tie_rules.specs.Declarations.{slot_at};
-
-    ghost places = { λ s. slot_at s.tree.now s.before.now };
-
-    fn judge(&self, others: &[Leaf], slot: &Leaf) -> Option<u32> {
-        let named = among(self.before, Sort::Slot, slot) || listed(slot, others);
-        when(
-            named || !has(self.tree, Sort::SlotOpcodes, slot),
-            slot.place,
-        )
-    }
-}
-
-#[derive(Clone, Copy)]
-struct SlotList<'a> {
-    tree: &'a Tree,
-}
-
-impl JudgeBehind<Decl> for SlotList<'_> {
-    ghost use Rattle.tie_rules.specs.Declarations.{slot_list_at};
-
-    ghost places = { λ s. slot_list_at s.tree.now };
-
-    fn judge(&self, before: &[Decl], decl: &Decl) -> Option<u32> {
-        let tree = self.tree;
-        match decl {
-            Decl::Format(x) => least_behind(&SlotOf { tree, before }, x.slots.as_slice()),
-            Decl::SlotOpcodes(x) => {
-                let lone = !has(tree, Sort::Slot, &x.slot);
-                when(
-                    lone || among(before, Sort::SlotOpcodes, &x.slot),
-                    x.slot.place,
-                )
-            }
-            _ => None,
-        }
-    }
-}
-
-pub fn slot_list(tree: &Tree) -> Option<u32>
-    ensures { result ≡ spec.least (rule.slot_list tree.now) }
-{
-    least_behind(&SlotList { tree }, tree.declarations.as_slice())
 }
 
 // ---- 14

@@ -1,12 +1,14 @@
 //! What is asked at each of some things, and the answers for all of them.
 
-ghost use Rattle.std.specs.Prelude.{◌≡◌, ◌≤◌, ◌<◌, List, map, take, length, option_copied};
-ghost use Rattle.std.specs.List.{flat_map, list_any, find, count_by};
+ghost use Rattle.std.specs.Prelude.{◌≡◌, ◌≤◌, ◌<◌, List, map, take, length, option_copied, IfOk};
+ghost use Rattle.std.specs.List.{flat_map, list_any, find};
 ghost use Rattle.tie_rules.specs.Least as spec;
 ghost use Rattle.tie_rules.specs.Schedules.{few};
 ghost use Rattle.tie_rules.specs.Schedules as slot;
 
 use crate::least::earlier;
+use std::alloc::Global;
+use tie_mean::NoMemory;
 
 /// A rule, by the places at which a thing breaks it.
 pub trait Judge<T> {
@@ -16,6 +18,16 @@ pub trait Judge<T> {
 
     fn judge(&self, x: &T) -> Option<u32>
         ensures { result ≡ spec.least (places self.now x.now) };
+}
+
+/// A rule, by the places at which a thing breaks it, that needs memory.
+pub trait JudgeIn<T> {
+    ghost use Rattle.std.specs.Prelude.{List, ℕ};
+
+    ghost places: { Self → T → List ℕ };
+
+    fn judge(&self, alloc: Global, x: &T) -> Result<Option<u32>, NoMemory>
+        ensures { IfOk result (λ place. place ≡ spec.least (places self.now x.now)) };
 }
 
 /// A rule, by the places at which a thing breaks it where others stand before it.
@@ -60,6 +72,23 @@ pub fn least_in<T, R: Judge<T>>(rule: &R, xs: &[T]) -> Option<u32>
     found
 }
 
+/// The least place at which some things break a rule that needs memory.
+#[tactic(auto, using(crate::proofs::Places::places))]
+pub fn least_made<T, R: JudgeIn<T>>(
+    alloc: Global,
+    rule: &R,
+    xs: &[T],
+) -> Result<Option<u32>, NoMemory>
+    ensures { IfOk result (λ place. place ≡ spec.least (flat_map (R.places rule.now) xs.now)) }
+{
+    let mut found = None;
+    for x in xs {
+        let place = rule.judge(alloc, x)?;
+        found = earlier(found, place);
+    }
+    Ok(found)
+}
+
 /// Those before a place.
 fn before<T>(xs: &[T], i: usize) -> &[T]
     requires { i ≤ length xs.now }
@@ -90,19 +119,6 @@ pub fn some<T, R: Test<T>>(test: &R, xs: &[T]) -> bool
         }
     }
     false
-}
-
-/// How many pass a test.
-pub fn count<T, R: Test<T>>(test: &R, xs: &[T]) -> usize
-    ensures { result ≡ count_by (R.holds test.now) xs.now }
-{
-    let mut n = 0;
-    for x in xs {
-        if test.holds_of(x) {
-            n += 1;
-        }
-    }
-    n
 }
 
 /// The first that passes a test.

@@ -12,7 +12,10 @@ ghost use Rattle.tie_rules.specs.Least.{first_broken, NoneBroken, IsFirst};
 ghost use Rattle.tie_rules.specs.Answers.{Judged};
 
 mod again;
+mod assigned;
 mod bodies;
+mod body_names;
+mod counted;
 mod declarations;
 mod each;
 mod least;
@@ -22,22 +25,26 @@ mod names;
 mod parts;
 mod schedules;
 mod sizes;
+mod slots;
 #[cfg(test)]
 mod tests;
+mod unknown;
 mod widths;
 
-use bodies::{
-    arg_count, assigned_twice, direction, not_assigned, recursion, unknown_name, used_before,
-};
+use assigned::{assigned_twice, not_assigned, used_before};
+use bodies::{arg_count, direction, recursion};
+use counted::{too_many, too_many_opcodes};
 use declarations::{
     depth_range, doubled, format_width, imm_range, literal_range, short_name, slot_count,
-    slot_list, slot_opcode, table_count, too_many, too_many_args, too_many_opcodes, width_range,
+    slot_opcode, table_count, too_many_args, width_range,
 };
 use locals::local_doubled;
 use schedules::{format_too_wide, queue_twice, schedule_order, schedule_twice, state_twice};
 use sizes::{arg_size, select_range, size_range, too_large};
+use slots::slot_list;
 use std::alloc::Global;
 use tie_grammar::tree::Tree;
+use unknown::unknown_name;
 
 /// The first broken rule at its least place, or want of memory.
 #[derive(Clone, Copy, Debug, PartialEq, Eq)]
@@ -70,14 +77,18 @@ fn judge_short_names(alloc: Global, tree: &Tree) -> Result<(), RuleRefusal>
 }
 
 /// Rules 3 to 14.
-fn judge_declarations(tree: &Tree) -> Result<(), RuleRefusal>
+fn judge_declarations(alloc: Global, tree: &Tree) -> Result<(), RuleRefusal>
     ensures { Judged result (first_broken 3 (book.declaration_rules tree.now)) }
 {
-    if let Some(place) = too_many(tree) {
-        return Err(RuleRefusal::Rule { rule: 3, place });
+    match too_many(alloc, tree) {
+        Ok(None) => {}
+        Ok(Some(place)) => return Err(RuleRefusal::Rule { rule: 3, place }),
+        Err(_) => return Err(RuleRefusal::NoMemory),
     }
-    if let Some(place) = too_many_opcodes(tree) {
-        return Err(RuleRefusal::Rule { rule: 4, place });
+    match too_many_opcodes(alloc, tree) {
+        Ok(None) => {}
+        Ok(Some(place)) => return Err(RuleRefusal::Rule { rule: 4, place }),
+        Err(_) => return Err(RuleRefusal::NoMemory),
     }
     if let Some(place) = too_many_args(tree) {
         return Err(RuleRefusal::Rule { rule: 5, place });
@@ -103,8 +114,10 @@ fn judge_declarations(tree: &Tree) -> Result<(), RuleRefusal>
     if let Some(place) = slot_count(tree) {
         return Err(RuleRefusal::Rule { rule: 12, place });
     }
-    if let Some(place) = slot_list(tree) {
-        return Err(RuleRefusal::Rule { rule: 13, place });
+    match slot_list(alloc, tree) {
+        Ok(None) => {}
+        Ok(Some(place)) => return Err(RuleRefusal::Rule { rule: 13, place }),
+        Err(_) => return Err(RuleRefusal::NoMemory),
     }
     if let Some(place) = slot_opcode(tree) {
         return Err(RuleRefusal::Rule { rule: 14, place });
@@ -113,14 +126,18 @@ fn judge_declarations(tree: &Tree) -> Result<(), RuleRefusal>
 }
 
 /// Rules 15 to 25.
-fn judge_bodies(tree: &Tree) -> Result<(), RuleRefusal>
+fn judge_bodies(alloc: Global, tree: &Tree) -> Result<(), RuleRefusal>
     ensures { Judged result (first_broken 15 (book.body_rules tree.now)) }
 {
-    if let Some(place) = local_doubled(tree) {
-        return Err(RuleRefusal::Rule { rule: 15, place });
+    match local_doubled(alloc, tree) {
+        Ok(None) => {}
+        Ok(Some(place)) => return Err(RuleRefusal::Rule { rule: 15, place }),
+        Err(_) => return Err(RuleRefusal::NoMemory),
     }
-    if let Some(place) = unknown_name(tree) {
-        return Err(RuleRefusal::Rule { rule: 16, place });
+    match unknown_name(alloc, tree) {
+        Ok(None) => {}
+        Ok(Some(place)) => return Err(RuleRefusal::Rule { rule: 16, place }),
+        Err(_) => return Err(RuleRefusal::NoMemory),
     }
     if let Some(place) = direction(tree) {
         return Err(RuleRefusal::Rule { rule: 17, place });
@@ -131,23 +148,35 @@ fn judge_bodies(tree: &Tree) -> Result<(), RuleRefusal>
     if let Some(place) = arg_count(tree) {
         return Err(RuleRefusal::Rule { rule: 19, place });
     }
-    if let Some(place) = used_before(tree) {
-        return Err(RuleRefusal::Rule { rule: 20, place });
+    match used_before(alloc, tree) {
+        Ok(None) => {}
+        Ok(Some(place)) => return Err(RuleRefusal::Rule { rule: 20, place }),
+        Err(_) => return Err(RuleRefusal::NoMemory),
     }
-    if let Some(place) = assigned_twice(tree) {
-        return Err(RuleRefusal::Rule { rule: 21, place });
+    match assigned_twice(alloc, tree) {
+        Ok(None) => {}
+        Ok(Some(place)) => return Err(RuleRefusal::Rule { rule: 21, place }),
+        Err(_) => return Err(RuleRefusal::NoMemory),
     }
-    if let Some(place) = not_assigned(tree) {
-        return Err(RuleRefusal::Rule { rule: 22, place });
+    match not_assigned(alloc, tree) {
+        Ok(None) => {}
+        Ok(Some(place)) => return Err(RuleRefusal::Rule { rule: 22, place }),
+        Err(_) => return Err(RuleRefusal::NoMemory),
     }
-    if let Some(place) = select_range(tree) {
-        return Err(RuleRefusal::Rule { rule: 23, place });
+    match select_range(alloc, tree) {
+        Ok(None) => {}
+        Ok(Some(place)) => return Err(RuleRefusal::Rule { rule: 23, place }),
+        Err(_) => return Err(RuleRefusal::NoMemory),
     }
-    if let Some(place) = arg_size(tree) {
-        return Err(RuleRefusal::Rule { rule: 24, place });
+    match arg_size(alloc, tree) {
+        Ok(None) => {}
+        Ok(Some(place)) => return Err(RuleRefusal::Rule { rule: 24, place }),
+        Err(_) => return Err(RuleRefusal::NoMemory),
     }
-    if let Some(place) = size_range(tree) {
-        return Err(RuleRefusal::Rule { rule: 25, place });
+    match size_range(alloc, tree) {
+        Ok(None) => {}
+        Ok(Some(place)) => return Err(RuleRefusal::Rule { rule: 25, place }),
+        Err(_) => return Err(RuleRefusal::NoMemory),
     }
     Ok(())
 }
@@ -199,10 +228,10 @@ fn judge_late(alloc: Global, tree: &Tree) -> Result<(), RuleRefusal>
 fn judge_behind_names(alloc: Global, tree: &Tree) -> Result<(), RuleRefusal>
     ensures { Judged result (first_broken 3 (book.rules_behind_names tree.now)) }
 {
-    if let Err(refusal) = judge_declarations(tree) {
+    if let Err(refusal) = judge_declarations(alloc, tree) {
         return Err(refusal);
     }
-    if let Err(refusal) = judge_bodies(tree) {
+    if let Err(refusal) = judge_bodies(alloc, tree) {
         return Err(refusal);
     }
     judge_late(alloc, tree)

@@ -1,18 +1,23 @@
 //! Rule 15: the names that a function or an operation declares.
 
-ghost use Rattle.std.specs.Prelude.{◌≡◌, ◌==◌, ◌≤◌, ◌<◌, nat_lt, nat_le, not, option_copied, length, List};
-ghost use Rattle.std.specs.List.{list_any};
+ghost use Rattle.std.specs.Prelude.{◌≡◌, IfOk, option_copied};
 ghost use Rattle.tie_rules.specs.Least as spec;
+ghost use Rattle.tie_rules.specs.Names.{body};
+ghost use Rattle.tie_rules.specs.NameSets as sets;
 ghost use Rattle.tie_rules.specs.Bodies as rule;
 
-use crate::each::{Judge, JudgeBehind, least_behind, least_in, some};
+use crate::again::{JudgeAgain, least_again};
+use crate::body_names::wire_name;
+use crate::each::{Judge, JudgeBehind, JudgeIn, least_behind, least_in, least_made, some};
 use crate::least::{earlier, when};
 use crate::names::{
-    DeclaresWire, IsArgument, IsLink, IsParameter, arguments, body, declared_name, has_argument,
-    has_link, has_parameter, links, parameters,
+    IsArgument, IsLink, IsParameter, arguments, body, declared_name, has_argument, has_link,
+    has_parameter, links, parameters,
 };
+use std::alloc::Global;
 use tie_grammar::symbol::Leaf;
 use tie_grammar::tree::{Argument, Decl, Item, Link, Parameter, Tree};
+use tie_mean::NoMemory;
 use tie_mean::names::is_named;
 
 // ---- 15
@@ -103,26 +108,15 @@ impl JudgeBehind<Link> for LinkDoubled<'_> {
     }
 }
 
-fn wire_name(item: &Item) -> Option<&Leaf>
-    ensures { option_copied result ≡ rule.wire_name item.now }
-{
-    match item {
-        Item::Wire(_, n) => Some(n),
-        Item::WireSet(_, n, _) => Some(n),
-        Item::Assign(_, _) => None,
-    }
-}
-
 #[tactic(auto, using(crate::proofs::Places::places))]
-fn named_doubled(tree: &Tree, decl: &Decl, before: &[Item], name: Option<&Leaf>) -> Option<u32>
-    ensures { result ≡ spec.least (rule.named_doubled tree.now decl.now before.now (option_copied name.entry)) }
+fn named_doubled(tree: &Tree, decl: &Decl, again: bool, name: Option<&Leaf>) -> Option<u32>
+    ensures { result ≡ spec.least (sets.named_doubled_by tree.now decl.now again (option_copied name.entry)) }
 {
     match name {
         Some(n) => {
             let operand = has_argument(n, decl) || has_link(n, decl);
-            let again = some(&DeclaresWire { name: n }, before)
-                || (has_parameter(n, decl) || operand);
-            earlier(when(again, n.place), declared_clash(tree, n))
+            let doubled = again || (has_parameter(n, decl) || operand);
+            earlier(when(doubled, n.place), declared_clash(tree, n))
         }
         None => None,
     }
@@ -134,14 +128,27 @@ struct WireDoubled<'a> {
     decl: &'a Decl,
 }
 
-impl JudgeBehind<Item> for WireDoubled<'_> {
-    ghost use Rattle.tie_rules.specs.Bodies.{wire_doubled};
+impl JudgeAgain<Item> for WireDoubled<'_> {
+    ghost use Rattle.tie_rules.specs.Bodies.{wire_name};
+    ghost use Rattle.tie_rules.specs.NameSets.{wire_doubled_here};
 
-    ghost places = { λ s. wire_doubled s.tree.now s.decl.now };
+    ghost name = { λ _. wire_name };
 
-    fn judge(&self, before: &[Item], item: &Item) -> Option<u32> {
-        named_doubled(self.tree, self.decl, before, wire_name(item))
+    ghost places = { λ s. wire_doubled_here s.tree.now s.decl.now };
+
+    fn name_of<'t>(&self, item: &'t Item) -> Option<&'t Leaf> {
+        wire_name(item)
     }
+
+    fn judge(&self, again: bool, item: &Item) -> Option<u32> {
+        named_doubled(self.tree, self.decl, again, wire_name(item))
+    }
+}
+
+fn wires_doubled(alloc: Global, tree: &Tree, decl: &Decl) -> Result<Option<u32>, NoMemory>
+    ensures { IfOk result (λ place. place ≡ spec.least (spec.behind (rule.wire_doubled tree.now decl.now) (body decl.now))) }
+{
+    least_again(alloc, &WireDoubled { tree, decl }, body(decl))
 }
 
 #[derive(Clone, Copy)]
@@ -150,23 +157,23 @@ struct LocalDoubled<'a> {
 }
 
 #[tactic(auto, using(crate::proofs::Places::places))]
-impl Judge<Decl> for LocalDoubled<'_> {
+impl JudgeIn<Decl> for LocalDoubled<'_> {
     ghost use Rattle.tie_rules.specs.Bodies.{local_doubled_at};
 
     ghost places = { λ s. local_doubled_at s.tree.now };
 
-    fn judge(&self, decl: &Decl) -> Option<u32> {
+    fn judge(&self, alloc: Global, decl: &Decl) -> Result<Option<u32>, NoMemory> {
         let tree = self.tree;
+        let wires = wires_doubled(alloc, tree, decl)?;
         let parameters = least_behind(&ParameterDoubled { tree }, parameters(decl));
         let arguments = least_behind(&ArgumentDoubled { tree }, arguments(decl));
         let links = least_behind(&LinkDoubled { decl }, links(decl));
-        let wires = least_behind(&WireDoubled { tree, decl }, body(decl));
-        earlier(earlier(parameters, arguments), earlier(links, wires))
+        Ok(earlier(earlier(parameters, arguments), earlier(links, wires)))
     }
 }
 
-pub fn local_doubled(tree: &Tree) -> Option<u32>
-    ensures { result ≡ spec.least (rule.local_doubled tree.now) }
+pub fn local_doubled(alloc: Global, tree: &Tree) -> Result<Option<u32>, NoMemory>
+    ensures { IfOk result (λ place. place ≡ spec.least (rule.local_doubled tree.now)) }
 {
-    least_in(&LocalDoubled { tree }, tree.declarations.as_slice())
+    least_made(alloc, &LocalDoubled { tree }, tree.declarations.as_slice())
 }

@@ -417,46 +417,6 @@ impl Test<Link> for IsLink<'_> {
     }
 }
 
-/// A wire of a name.
-#[derive(Clone, Copy)]
-pub struct DeclaresWire<'a> {
-    pub name: &'a Leaf,
-}
-
-impl Test<Item> for DeclaresWire<'_> {
-    ghost use Rattle.tie_rules.specs.Names.{declares_wire};
-
-    ghost holds = { λ s. declares_wire s.name.now.bytes };
-
-    fn holds_of(&self, x: &Item) -> bool {
-        match x {
-            Item::Wire(_, n) => is_named(self.name, n),
-            Item::WireSet(_, n, _) => is_named(self.name, n),
-            Item::Assign(_, _) => false,
-        }
-    }
-}
-
-/// An assignment of a name.
-#[derive(Clone, Copy)]
-pub struct SetsName<'a> {
-    pub name: &'a Leaf,
-}
-
-impl Test<Item> for SetsName<'_> {
-    ghost use Rattle.tie_rules.specs.Names.{sets_name};
-
-    ghost holds = { λ s. sets_name s.name.now.bytes };
-
-    fn holds_of(&self, x: &Item) -> bool {
-        match x {
-            Item::Wire(_, _) => false,
-            Item::WireSet(_, n, _) => is_named(self.name, n),
-            Item::Assign(n, _) => is_named(self.name, n),
-        }
-    }
-}
-
 pub fn has_parameter(name: &Leaf, decl: &Decl) -> bool
     ensures { result ≡ spec.has_parameter name.now.bytes decl.now }
 {
@@ -473,27 +433,6 @@ pub fn has_link(name: &Leaf, decl: &Decl) -> bool
     ensures { result ≡ spec.has_link name.now.bytes decl.now }
 {
     some(&IsLink { name }, links(decl))
-}
-
-pub fn has_wire(name: &Leaf, decl: &Decl) -> bool
-    ensures { result ≡ spec.has_wire name.now.bytes decl.now }
-{
-    some(&DeclaresWire { name }, body(decl))
-}
-
-pub fn is_assigned(name: &Leaf, decl: &Decl) -> bool
-    ensures { result ≡ spec.is_assigned name.now.bytes decl.now }
-{
-    some(&SetsName { name }, body(decl))
-}
-
-/// The body sees the name.
-pub fn sees(name: &Leaf, decl: &Decl) -> bool
-    ensures { result ≡ spec.sees name.now.bytes decl.now }
-{
-    let operand = has_argument(name, decl) || has_link(name, decl);
-    let local = has_parameter(name, decl) || has_wire(name, decl);
-    (operand || local) || is_own(name, decl)
 }
 
 // ---- operands

@@ -12,9 +12,9 @@ ghost use Rattle.tie_rules.specs.Names.{seen_widths};
 
 use crate::bodies::number_of;
 use crate::declarations::{least_in_body, value as number_value};
-use crate::each::{Judge, least_in};
+use crate::each::{Judge, JudgeIn, least_made};
 use crate::least::{earlier, when};
-use crate::widths::Body;
+use crate::widths::{Body, body_of};
 use std::alloc::Global;
 use tie_grammar::symbol::{Leaf, TieFunction};
 use tie_grammar::tree::{Decl, Expr, Literal, Tree};
@@ -45,15 +45,15 @@ fn bad_index(body: &Body, name: &Leaf, number: Option<&Leaf>) -> Option<u32>
 }
 
 #[derive(Clone, Copy)]
-struct SelectHere<'a> {
-    body: Body<'a>,
+struct SelectHere<'a, 's, 't> {
+    body: &'a Body<'s, 't>,
 }
 
-impl Judge<Expr> for SelectHere<'_> {
+impl Judge<Expr> for SelectHere<'_, '_, '_> {
     ghost use Rattle.tie_rules.specs.Bodies.{select_here};
     ghost use Rattle.tie_rules.specs.Names.{seen_widths};
 
-    ghost places = { λ s. select_here (seen_widths s.body.tree.now s.body.decl.now) };
+    ghost places = { λ s. select_here (seen_widths s.body.now.tree.now s.body.now.decl.now) };
 
     fn judge(&self, x: &Expr) -> Option<u32> {
         match x {
@@ -62,7 +62,7 @@ impl Judge<Expr> for SelectHere<'_> {
                 let beyond = u128::from(self.body.name_width(n)) <= top;
                 when(top < number_value(low) || beyond, high.place)
             }
-            Expr::Index(n, index) => bad_index(&self.body, n, number_of(index.get())),
+            Expr::Index(n, index) => bad_index(self.body, n, number_of(index.get())),
             Expr::Repeat(_, count, _, _) => when(number_value(count) == 0, count.place),
             _ => None,
         }
@@ -74,24 +74,21 @@ struct SelectRange<'a> {
     tree: &'a Tree,
 }
 
-impl Judge<Decl> for SelectRange<'_> {
+impl JudgeIn<Decl> for SelectRange<'_> {
     ghost use Rattle.tie_rules.specs.Bodies.{select_range_at};
 
     ghost places = { λ s. select_range_at s.tree.now };
 
-    fn judge(&self, decl: &Decl) -> Option<u32> {
-        let body = Body {
-            tree: self.tree,
-            decl,
-        };
-        least_in_body(&SelectHere { body }, decl)
+    fn judge(&self, alloc: Global, decl: &Decl) -> Result<Option<u32>, NoMemory> {
+        let body = body_of(alloc, self.tree, decl)?;
+        Ok(least_in_body(&SelectHere { body: &body }, decl))
     }
 }
 
-pub fn select_range(tree: &Tree) -> Option<u32>
-    ensures { result ≡ spec.least (rule.select_range tree.now) }
+pub fn select_range(alloc: Global, tree: &Tree) -> Result<Option<u32>, NoMemory>
+    ensures { IfOk result (λ place. place ≡ spec.least (rule.select_range tree.now)) }
 {
-    least_in(&SelectRange { tree }, tree.declarations.as_slice())
+    least_made(alloc, &SelectRange { tree }, tree.declarations.as_slice())
 }
 
 // ---- 24
@@ -128,21 +125,21 @@ fn fits_sizes(body: &Body, function: TieFunction, arguments: &[Expr]) -> bool
 }
 
 #[derive(Clone, Copy)]
-struct ArgSizeHere<'a> {
-    body: Body<'a>,
+struct ArgSizeHere<'a, 's, 't> {
+    body: &'a Body<'s, 't>,
 }
 
-impl Judge<Expr> for ArgSizeHere<'_> {
+impl Judge<Expr> for ArgSizeHere<'_, '_, '_> {
     ghost use Rattle.tie_rules.specs.Bodies.{arg_size_here};
     ghost use Rattle.tie_rules.specs.Names.{seen_widths};
 
-    ghost places = { λ s. arg_size_here (seen_widths s.body.tree.now s.body.decl.now) };
+    ghost places = { λ s. arg_size_here (seen_widths s.body.now.tree.now s.body.now.decl.now) };
 
     fn judge(&self, x: &Expr) -> Option<u32> {
         match x {
             Expr::Tie(word, _, arguments) => {
                 when(
-                    !fits_sizes(&self.body, word.function, arguments.as_slice()),
+                    !fits_sizes(self.body, word.function, arguments.as_slice()),
                     word.place,
                 )
             }
@@ -156,24 +153,21 @@ struct ArgSize<'a> {
     tree: &'a Tree,
 }
 
-impl Judge<Decl> for ArgSize<'_> {
+impl JudgeIn<Decl> for ArgSize<'_> {
     ghost use Rattle.tie_rules.specs.Bodies.{arg_size_at};
 
     ghost places = { λ s. arg_size_at s.tree.now };
 
-    fn judge(&self, decl: &Decl) -> Option<u32> {
-        let body = Body {
-            tree: self.tree,
-            decl,
-        };
-        least_in_body(&ArgSizeHere { body }, decl)
+    fn judge(&self, alloc: Global, decl: &Decl) -> Result<Option<u32>, NoMemory> {
+        let body = body_of(alloc, self.tree, decl)?;
+        Ok(least_in_body(&ArgSizeHere { body: &body }, decl))
     }
 }
 
-pub fn arg_size(tree: &Tree) -> Option<u32>
-    ensures { result ≡ spec.least (rule.arg_size tree.now) }
+pub fn arg_size(alloc: Global, tree: &Tree) -> Result<Option<u32>, NoMemory>
+    ensures { IfOk result (λ place. place ≡ spec.least (rule.arg_size tree.now)) }
 {
-    least_in(&ArgSize { tree }, tree.declarations.as_slice())
+    least_made(alloc, &ArgSize { tree }, tree.declarations.as_slice())
 }
 
 // ---- 25
@@ -208,18 +202,18 @@ fn start(x: &Expr) -> u32
 }
 
 #[derive(Clone, Copy)]
-struct SizeHere<'a> {
-    body: Body<'a>,
+struct SizeHere<'a, 's, 't> {
+    body: &'a Body<'s, 't>,
 }
 
-impl Judge<Expr> for SizeHere<'_> {
+impl Judge<Expr> for SizeHere<'_, '_, '_> {
     ghost use Rattle.tie_rules.specs.Bodies.{size_here};
     ghost use Rattle.tie_rules.specs.Names.{seen_widths};
 
-    ghost places = { λ s. size_here (seen_widths s.body.tree.now s.body.decl.now) };
+    ghost places = { λ s. size_here (seen_widths s.body.now.tree.now s.body.now.decl.now) };
 
     fn judge(&self, x: &Expr) -> Option<u32> {
-        when(size(&self.body, x) > 128, start(x))
+        when(size(self.body, x) > 128, start(x))
     }
 }
 
@@ -228,24 +222,21 @@ struct SizeRange<'a> {
     tree: &'a Tree,
 }
 
-impl Judge<Decl> for SizeRange<'_> {
+impl JudgeIn<Decl> for SizeRange<'_> {
     ghost use Rattle.tie_rules.specs.Bodies.{size_range_at};
 
     ghost places = { λ s. size_range_at s.tree.now };
 
-    fn judge(&self, decl: &Decl) -> Option<u32> {
-        let body = Body {
-            tree: self.tree,
-            decl,
-        };
-        least_in_body(&SizeHere { body }, decl)
+    fn judge(&self, alloc: Global, decl: &Decl) -> Result<Option<u32>, NoMemory> {
+        let body = body_of(alloc, self.tree, decl)?;
+        Ok(least_in_body(&SizeHere { body: &body }, decl))
     }
 }
 
-pub fn size_range(tree: &Tree) -> Option<u32>
-    ensures { result ≡ spec.least (rule.size_range tree.now) }
+pub fn size_range(alloc: Global, tree: &Tree) -> Result<Option<u32>, NoMemory>
+    ensures { IfOk result (λ place. place ≡ spec.least (rule.size_range tree.now)) }
 {
-    least_in(&SizeRange { tree }, tree.declarations.as_slice())
+    least_made(alloc, &SizeRange { tree }, tree.declarations.as_slice())
 }
 
 // ---- 31

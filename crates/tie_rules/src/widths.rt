@@ -1,18 +1,22 @@
 //! The widths of the names that a body sees.
 
-ghost use Rattle.std.specs.Prelude.{◌≡◌, ℕ, ◌+◌, map, codes, unwrap_or};
+ghost use Rattle.std.specs.Prelude.{◌≡◌, ℕ, ◌+◌, ◌<◌, drop, length, List, map, codes, unwrap_or, IfOk, OnOk};
 ghost use Rattle.std.specs.List.{flat_map};
 ghost use Rattle.tie_mean.specs.Sizes.{limited, bounded};
 ghost use Rattle.tie_mean.specs.Names as names;
+ghost use Rattle.tie_mean.specs.Kept.{kept};
 ghost use Rattle.tie_rules.specs.Widths as spec;
 ghost use Rattle.tie_rules.specs.Names as seen;
 
 use crate::declarations::value;
 use crate::names::is_text;
+use std::alloc::Global;
+use std::collections::BTreeMap;
 use tie_grammar::symbol::Leaf;
-use tie_grammar::tree::{Argument, Decl, Item, Link, Parameter, Range, Tree};
+use tie_grammar::tree::{Argument, Decl, Function, Item, Link, Operation, Parameter, Range, Tree};
+use tie_mean::NoMemory;
+use tie_mean::kept::{keep_first, kept};
 use tie_mean::names::is_named;
-use tie_mean::scope::is_table;
 use tie_mean::size::Scope;
 
 /// Names that a thing declares, with their widths.
@@ -37,6 +41,32 @@ fn width_among<T, D: Declares<T>>(declares: &D, xs: &[T], name: &Leaf) -> Option
         }
     }
     None
+}
+
+/// Things that each declare a name with its width, or none.
+trait Keeps<T> {
+    ghost use Rattle.std.specs.Prelude.{List};
+    ghost use Rattle.tie_mean.specs.Names.{Declared};
+
+    ghost declared: { Self → T → List Declared };
+
+    /// Keeps the width, unless one is kept for the name.
+    fn keep<'t>(&self, widths: &mut BTreeMap<&'t [u8], u64>, x: &'t T) -> Result<(), NoMemory>
+        ensures { OnOk result ((q : List ℕ) → kept widths.new q ≡ spec.either (kept widths.old q) (spec.found (declared self.now x.now) q)) };
+}
+
+/// Keeps the widths of names that some things declare, the first of each name.
+fn keep_all<'t, T, D: Keeps<T>>(
+    widths: &mut BTreeMap<&'t [u8], u64>,
+    keeps: &D,
+    xs: &'t [T],
+) -> Result<(), NoMemory>
+    ensures { OnOk result ((q : List ℕ) → kept widths.new q ≡ spec.either (kept widths.old q) (spec.found (flat_map (D.declared keeps.now) xs.now) q)) }
+{
+    for x in xs {
+        keeps.keep(widths, x)?;
+    }
+    Ok(())
 }
 
 fn limited_of(n: u128) -> u64
@@ -78,41 +108,36 @@ fn range_width(range: &Option<Range>) -> u64
     }
 }
 
-fn either(a: Option<u64>, b: Option<u64>) -> Option<u64>
-    ensures { result ≡ spec.either a b }
-{
-    match a {
-        Some(width) => Some(width),
-        None => b,
-    }
-}
-
 #[derive(Clone, Copy)]
 struct OfParameter;
 
-impl Declares<Parameter> for OfParameter {
+impl Keeps<Parameter> for OfParameter {
     ghost use Rattle.tie_rules.specs.Widths.{of_parameter};
 
     ghost declared = { λ _. of_parameter };
 
-    fn width_of(&self, x: &Parameter, name: &Leaf) -> Option<u64> {
-        named(&x.name, range_width(&x.range), name)
+    fn keep<'t>(
+        &self,
+        widths: &mut BTreeMap<&'t [u8], u64>,
+        x: &'t Parameter,
+    ) -> Result<(), NoMemory> {
+        keep_first(widths, &x.name, range_width(&x.range))
     }
 }
 
 #[derive(Clone, Copy)]
 struct OfWire;
 
-impl Declares<Item> for OfWire {
+impl Keeps<Item> for OfWire {
     ghost use Rattle.tie_mean.specs.Names.{wire_declared};
 
     ghost declared = { λ _. wire_declared };
 
-    fn width_of(&self, x: &Item, name: &Leaf) -> Option<u64> {
+    fn keep<'t>(&self, widths: &mut BTreeMap<&'t [u8], u64>, x: &'t Item) -> Result<(), NoMemory> {
         match x {
-            Item::Wire(range, n) => named(n, range_width(range), name),
-            Item::WireSet(range, n, _) => named(n, range_width(range), name),
-            Item::Assign(_, _) => None,
+            Item::Wire(range, n) => keep_first(widths, n, range_width(range)),
+            Item::WireSet(range, n, _) => keep_first(widths, n, range_width(range)),
+            Item::Assign(_, _) => Ok(()),
         }
     }
 }
@@ -201,13 +226,17 @@ struct OfArgument<'a> {
     tree: &'a Tree,
 }
 
-impl Declares<Argument> for OfArgument<'_> {
+impl Keeps<Argument> for OfArgument<'_> {
     ghost use Rattle.tie_rules.specs.Widths.{of_argument};
 
     ghost declared = { λ s. of_argument s.tree.now };
 
-    fn width_of(&self, x: &Argument, name: &Leaf) -> Option<u64> {
-        named(&x.name, kind_width(self.tree, &x.kind), name)
+    fn keep<'t>(
+        &self,
+        widths: &mut BTreeMap<&'t [u8], u64>,
+        x: &'t Argument,
+    ) -> Result<(), NoMemory> {
+        keep_first(widths, &x.name, kind_width(self.tree, &x.kind))
     }
 }
 
@@ -223,53 +252,106 @@ struct OfLink<'a> {
     tree: &'a Tree,
 }
 
-impl Declares<Link> for OfLink<'_> {
+impl Keeps<Link> for OfLink<'_> {
     ghost use Rattle.tie_rules.specs.Widths.{of_link};
 
     ghost declared = { λ s. of_link s.tree.now };
 
-    fn width_of(&self, x: &Link, name: &Leaf) -> Option<u64> {
-        named(&x.name, linked_width(self.tree, &x.name), name)
+    fn keep<'t>(&self, widths: &mut BTreeMap<&'t [u8], u64>, x: &'t Link) -> Result<(), NoMemory> {
+        keep_first(widths, &x.name, linked_width(self.tree, &x.name))
     }
 }
 
-/// The width of a name that a body sees.
+/// The widths of the names that a function's body sees.
 #[tactic(auto, using(crate::proofs::Found::found_lemmas))]
-fn seen_width(tree: &Tree, decl: &Decl, name: &Leaf) -> Option<u64>
-    ensures { result ≡ spec.found (seen.names_seen tree.now decl.now) name.now.bytes }
+fn function_widths(alloc: Global, function: &Function) -> Result<BTreeMap<&[u8], u64>, NoMemory>
+    ensures { IfOk result (λ widths. (q : List ℕ) → kept widths q ≡ spec.found (names.function_names function.now) q) }
+{
+    let mut widths = BTreeMap::new(alloc);
+    keep_all(&mut widths, &OfParameter, function.parameters.as_slice())?;
+    keep_all(&mut widths, &OfWire, function.items.as_slice())?;
+    keep_first(&mut widths, &function.name, range_width(&function.range))?;
+    Ok(widths)
+}
+
+/// The widths of the names that an operation's body sees.
+#[tactic(auto, using(crate::proofs::Found::found_lemmas))]
+fn operation_widths<'t>(
+    alloc: Global,
+    tree: &Tree,
+    operation: &'t Operation,
+) -> Result<BTreeMap<&'t [u8], u64>, NoMemory>
+    ensures { IfOk result (λ widths. (q : List ℕ) → kept widths q ≡ spec.found (names.operation_names tree.now operation.now) q) }
+{
+    let mut widths = BTreeMap::new(alloc);
+    keep_all(
+        &mut widths,
+        &OfArgument { tree },
+        operation.arguments.as_slice(),
+    )?;
+    keep_all(&mut widths, &OfLink { tree }, operation.links.as_slice())?;
+    keep_all(&mut widths, &OfWire, operation.items.as_slice())?;
+    Ok(widths)
+}
+
+/// The widths of the names that a body sees.
+fn widths_in<'t>(
+    alloc: Global,
+    tree: &Tree,
+    decl: &'t Decl,
+) -> Result<BTreeMap<&'t [u8], u64>, NoMemory>
+    ensures { IfOk result (λ widths. (q : List ℕ) → kept widths q ≡ spec.found (seen.names_seen tree.now decl.now) q) }
 {
     match decl {
-        Decl::Function(f) => {
-            let parameter = width_among(&OfParameter, f.parameters.as_slice(), name);
-            let wire = width_among(&OfWire, f.items.as_slice(), name);
-            let own = named(&f.name, range_width(&f.range), name);
-            either(either(parameter, wire), own)
-        }
-        Decl::Operation(o) => {
-            let argument = width_among(&OfArgument { tree }, o.arguments.as_slice(), name);
-            let link = width_among(&OfLink { tree }, o.links.as_slice(), name);
-            let wire = width_among(&OfWire, o.items.as_slice(), name);
-            either(either(argument, link), wire)
-        }
-        _ => None,
+        Decl::Function(x) => function_widths(alloc, x),
+        Decl::Operation(x) => operation_widths(alloc, tree, x),
+        _ => Ok(BTreeMap::new(alloc)),
     }
 }
 
-/// The names that a body sees.
-#[derive(Clone, Copy)]
-pub struct Body<'a> {
+/// The name is that of a table.
+fn is_table(declarations: &[Decl], name: &Leaf) -> bool
+    ensures { result ≡ names.is_among (map names.table_declared (flat_map names.table_of declarations.now)) name.now.bytes }
+{
+    for declaration in declarations {
+        if let Decl::Table(table) = declaration {
+            if is_named(name, &table.name) {
+                return true;
+            }
+        }
+    }
+    false
+}
+
+/// The names that a body sees, with their widths.
+#[derive(Drop)]
+pub struct Body<'a, 't> {
     pub tree: &'a Tree,
-    pub decl: &'a Decl,
+    pub decl: &'t Decl,
+    widths: BTreeMap<&'t [u8], u64>,
+    ghost right: { (q : List ℕ) → unwrap_or (kept widths q) 0 ≡ limited (names.width_in (seen.names_seen tree.now decl.now) q) },
+}
+
+/// What a body sees.
+pub fn body_of<'a, 't>(
+    alloc: Global,
+    tree: &'a Tree,
+    decl: &'t Decl,
+) -> Result<Body<'a, 't>, NoMemory>
+    ensures { IfOk result (λ body. (body.tree.now ≡ tree.now) × (body.decl.now ≡ decl.now)) }
+{
+    let widths = widths_in(alloc, tree, decl)?;
+    Ok(Body { tree, decl, widths })
 }
 
 #[tactic(auto, using(crate::proofs::Found::found_lemmas))]
-impl Scope for Body<'_> {
+impl Scope for Body<'_, '_> {
     ghost use Rattle.tie_rules.specs.Names.{seen_widths};
 
     ghost widths = { λ s. seen_widths s.tree.now s.decl.now };
 
     fn name_width(&self, name: &Leaf) -> u64 {
-        seen_width(self.tree, self.decl, name).unwrap_or(0)
+        kept(&self.widths, name).unwrap_or(0)
     }
 
     fn function_width(&self, name: &Leaf) -> u64 {

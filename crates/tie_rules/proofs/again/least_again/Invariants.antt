@@ -1,12 +1,13 @@
 use Rattle.std.proofs.Common.{◌≡◌, ℕ, List, drop, take}
 use Rattle.std.specs.List.{list_any}
 use Rattle.tie_rules.specs.Least.{earlier, least, behind, behind_from}
-use Rattle.tie_rules.specs.NameSets.{has_name, at_again, held}
+use Rattle.tie_rules.specs.NameSets.{has_name, at_again}
+use Rattle.tie_mean.specs.Kept.{met}
 use Rattle.tie_rules.proofs.again.least_again.Given as goal
 
 abbrev pub invariant-loop-x : goal.invariant-loop-x
 invariant-loop-x g l = record {
-  met : (q : List ℕ) → held l.met q ≡ list_any (has_name (g.R.JudgeAgain.name l.rule) q) (take l.x-index l.xs);
+  names : (q : List ℕ) → met l.before q ≡ list_any (has_name (g.R.JudgeAgain.name l.rule) q) (take l.x-index l.xs);
   so_far : earlier l.found (least (behind_from (at_again (g.R.JudgeAgain.name l.rule) (g.R.JudgeAgain.places l.rule)) (take l.x-index l.xs) (drop l.x-index l.xs)))
       ≡ least (behind (at_again (g.R.JudgeAgain.name l.rule) (g.R.JudgeAgain.places l.rule)) l.xs);
 }

@@ -12,26 +12,26 @@ pub mod special;
 
 use crate::Inst;
 
-// A family of instructions, which stands in the file of its name.
+/// A family of instructions, which stands in the file of its name.
 #[derive(Clone, Copy)]
 pub enum Family {
-    // logic, sums, differences, sign
+    /// logic, sums, differences, sign
     Arithmetic,
-    // the shift amount register, jumps through a register, and what has no operand
+    /// the shift amount register, jumps through a register, and what has no operand
     Special,
-    // shifts, and products of halves
+    /// shifts, and products of halves
     Shifts,
-    // a product, sign extension, minimum and maximum, conditional moves, a field of bits
+    /// a product, sign extension, minimum and maximum, conditional moves, a field of bits
     Choices,
-    // loads, stores, immediates
+    /// loads, stores, immediates
     Memory,
-    // a call, a jump, branches on one register
+    /// a call, a jump, branches on one register
     Jumps,
-    // branches on two registers, or on one bit
+    /// branches on two registers, or on one bit
     Branches,
 }
 
-// The family of an instruction.
+/// The family of an instruction.
 pub fn family_of(inst: &Inst) -> Family
     ensures { result ≡ family_of inst.now }
 {

@@ -16,6 +16,7 @@ mod operands;
 
 pub use decode::decode_core;
 pub use encode::encode_core;
+pub use families::{Family, family_of};
 pub use instruction::Inst;
 pub use laws::{one_spelling, one_word};
 pub use operands::fits;

@@ -1,0 +1,15 @@
+pub mod Own
+pub mod Constants
+pub mod Built
+pub mod Fitting
+pub mod CountLayers
+pub mod Within
+pub mod Same
+pub mod Joined
+pub mod Arms
+pub mod Added
+pub mod Formed
+pub mod Meant
+pub mod Lists
+pub mod Sized
+pub mod Ready

@@ -1,0 +1,17 @@
+pub mod Elements
+pub mod Kept
+pub mod Declared
+pub mod Counts
+pub mod Names
+pub mod NamesDiffer
+pub mod Places
+pub mod OperandKinds
+pub mod OperandNames
+pub mod Stages
+pub mod OperandWidths
+pub mod GoodOperations
+pub mod Codes
+pub mod SlotCodes
+pub mod Claims
+pub mod GoodFormats
+pub mod Whole

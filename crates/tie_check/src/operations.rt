@@ -26,11 +26,11 @@ fn operation_in(declaration: &Decl) -> Option<&Operation>
 }
 
 /// The results of the operations among some declarations of a text, in their order.
-fn results_among(
+fn results_among<'t>(
     alloc: Global,
-    tree: &Tree,
-    functions: &Functions,
-    declarations: &[Decl],
+    tree: &'t Tree,
+    functions: &Functions<'t>,
+    declarations: &'t [Decl],
 ) -> Result<Vec<Vec<Expr>>, NoMemory>
     requires text { SoundText tree.now }
     requires functions { AreFunctions tree.now functions.now }
@@ -51,10 +51,10 @@ fn results_among(
 }
 
 /// The results of each operation, in the order of the text.
-pub fn all_results(
+pub fn all_results<'t>(
     alloc: Global,
-    tree: &Tree,
-    functions: &Functions,
+    tree: &'t Tree,
+    functions: &Functions<'t>,
 ) -> Result<Vec<Vec<Expr>>, NoMemory>
     requires text { SoundText tree.now }
     requires functions { AreFunctions tree.now functions.now }

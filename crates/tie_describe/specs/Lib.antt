@@ -5,4 +5,3 @@ pub mod Described
 pub mod Answers
 pub mod Scope
 pub mod Results
-pub mod Example

@@ -1,5 +1,5 @@
 -- Declarations that are counted by keys.
-use Rattle.std.proofs.Common.{◌≡◌, ℕ, ◌+◌, ◌<◌, ◌==◌, ◌&&◌, Bool, true, false, cond, if◌then◌else◌, unwrap_or, List, [], Option, Some, None, refl, ap, sym, ◌∙◌, take, length, get_or, arith}
+use Rattle.std.proofs.Common.{◌≡◌, ℕ, ◌+◌, ◌<◌, ◌==◌, Bool, true, false, cond, if◌then◌else◌, unwrap_or, List, [], Option, Some, None, refl, ap, sym, ◌∙◌, take, length, get_or, arith}
 use Rattle.std.specs.List.{count_by}
 use Rattle.std.specs.Ordering.{nat_cmp, is_eq}
 use Rattle.std.proofs.lemmas.Bool.Decides.{nat_tests}

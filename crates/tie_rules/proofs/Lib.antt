@@ -6,4 +6,5 @@ pub mod Shapes
 pub mod Upper
 pub mod NamedItems
 pub mod SlotLists
+pub mod ScheduleLists
 pub mod Counting

@@ -17,7 +17,7 @@ use Rattle.tie_grammar.specs.declared.tree.Expr.{Expr, out-Expr}
 use Rattle.tie_grammar.specs.declared.tree.Expr.TheOpen.{Expr-F}
 use Rattle.tie_rules.specs.Names.{declares_wire, sets_name, has_parameter, has_argument, has_link, operand_is}
 use Rattle.tie_rules.specs.Declarations.{in_item}
-use Rattle.tie_rules.specs.Bodies.{declared_clash, wire_name, wire_doubled, lacks, assigned_twice_item, set_again, early, early_form, early_here, used_before_item}
+use Rattle.tie_rules.specs.Bodies.{declared_clash, wire_name, wire_doubled, lacks, assigned_twice_item, early, early_form, early_here, used_before_item}
 use Rattle.tie_rules.specs.Least.{when, least, behind}
 use Rattle.tie_rules.specs.NameSets.{has_name, at_again, at_met, set_name, set_again_here, wire_doubled_here, is_listed, waits, early_by, early_form_by, early_here_by, early_item}
 use Rattle.tie_rules.proofs.NameSets.{behind_same}

@@ -1,5 +1,5 @@
 -- Rule 13 in parts: slots named twice, slots and opcodes that stand alone, and opcodes that are listed twice.
-use Rattle.std.proofs.Common.{◌≡◌, ℕ, List, [], ◌++◌, Bool, ◌||◌, not, Option, refl, ap, sym, ◌∙◌}
+use Rattle.std.proofs.Common.{◌≡◌, ℕ, List, [], ◌++◌, Bool, ◌||◌, not, refl, ap, sym, ◌∙◌}
 use Rattle.std.specs.List.{list_any, flat_map}
 use mathlib.Core.Path.{fun_ext}
 use Rattle.tie_grammar.specs.declared.symbol.Leaf.{Leaf}

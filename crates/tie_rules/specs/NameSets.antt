@@ -160,6 +160,7 @@ lone_at t decl = flat_map (lone_slot t) (slots_of decl) ++ lone_given t (given_s
 
 -- ---- rule 26
 
+-- the operations that a schedule lists
 abbrev pub scheduled_leaves : Decl → List Leaf
 scheduled_leaves (d.Schedule x) = x.operations
 scheduled_leaves _ = []
@@ -179,9 +180,7 @@ operands _ _ = []
 abbrev pub operands_here : Bool → (List ℕ → Bool) → ScheduleItem → List ℕ
 operands_here defined known item = behind (leaf_again known) (operands defined item)
 
-abbrev pub schedule_items : Decl → List ScheduleItem
-schedule_items (d.Schedule x) = x.items
-schedule_items _ = []
-
+-- operands of a schedule that are used twice or defined twice
 abbrev pub operands_twice : Decl → List ℕ
-operands_twice decl = behind operand_again (schedule_items decl)
+operands_twice (d.Schedule x) = behind operand_again x.items
+operands_twice _ = []

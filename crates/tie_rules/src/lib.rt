@@ -23,6 +23,7 @@ mod locals;
 mod mnemonics;
 mod names;
 mod parts;
+mod scheduled;
 mod schedules;
 mod sizes;
 mod slots;
@@ -39,7 +40,8 @@ use declarations::{
     slot_opcode, table_count, too_many_args, width_range,
 };
 use locals::local_doubled;
-use schedules::{format_too_wide, queue_twice, schedule_order, schedule_twice, state_twice};
+use scheduled::schedule_twice;
+use schedules::{format_too_wide, queue_twice, schedule_order, state_twice};
 use sizes::{arg_size, select_range, size_range, too_large};
 use slots::slot_list;
 use std::alloc::Global;
@@ -193,11 +195,13 @@ fn judge_size(alloc: Global, tree: &Tree) -> Result<(), RuleRefusal>
 }
 
 /// Rules 26 to 30.
-fn judge_schedules(tree: &Tree) -> Result<(), RuleRefusal>
+fn judge_schedules(alloc: Global, tree: &Tree) -> Result<(), RuleRefusal>
     ensures { Judged result (first_broken 26 (book.schedule_rules tree.now)) }
 {
-    if let Some(place) = schedule_twice(tree) {
-        return Err(RuleRefusal::Rule { rule: 26, place });
+    match schedule_twice(alloc, tree) {
+        Ok(None) => {}
+        Ok(Some(place)) => return Err(RuleRefusal::Rule { rule: 26, place }),
+        Err(_) => return Err(RuleRefusal::NoMemory),
     }
     if let Some(place) = schedule_order(tree) {
         return Err(RuleRefusal::Rule { rule: 27, place });
@@ -218,7 +222,7 @@ fn judge_schedules(tree: &Tree) -> Result<(), RuleRefusal>
 fn judge_late(alloc: Global, tree: &Tree) -> Result<(), RuleRefusal>
     ensures { Judged result (first_broken 26 (book.late_rules tree.now)) }
 {
-    if let Err(refusal) = judge_schedules(tree) {
+    if let Err(refusal) = judge_schedules(alloc, tree) {
         return Err(refusal);
     }
     judge_size(alloc, tree)

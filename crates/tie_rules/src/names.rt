@@ -5,7 +5,6 @@ ghost use Rattle.std.specs.List.{list_any};
 ghost use Rattle.std.specs.Str.{bytes_eq};
 ghost use Rattle.tie_rules.specs.Names as spec;
 ghost use Rattle.tie_rules.specs.Declarations as rule;
-ghost use Rattle.tie_rules.specs.Schedules as plan;
 ghost use Rattle.tie_rules.specs.Sorts as sorts;
 
 use crate::each::{Test, some};
@@ -16,7 +15,6 @@ use tie_mean::names::is_named;
 /// What a name may be declared as.
 #[derive(Clone, Copy, Debug, PartialEq, Eq)]
 pub enum Sort {
-    Any,
     Operation,
     Function,
     Table,
@@ -27,14 +25,8 @@ pub enum Sort {
     Queue,
     Link,
     Kind,
-    /// The short name of a register file.
-    Short,
-    /// A slot of a format.
-    Slot,
     /// The slot that a list of opcodes is for.
     SlotOpcodes,
-    /// An operation of a schedule.
-    Scheduled,
 }
 
 /// Directions of operands.
@@ -232,35 +224,11 @@ pub fn short_of(decl: &Decl) -> Option<&Leaf>
     }
 }
 
-fn has_short(name: &Leaf, decl: &Decl) -> bool
-    ensures { result ≡ rule.has_short name.now.bytes decl.now }
-{
-    spells(name, short_of(decl))
-}
-
-fn has_slot(name: &Leaf, decl: &Decl) -> bool
-    ensures { result ≡ rule.has_slot name.now.bytes decl.now }
-{
-    match decl {
-        Decl::Format(x) => listed(name, x.slots.as_slice()),
-        _ => false,
-    }
-}
-
 fn gives_opcodes(name: &Leaf, decl: &Decl) -> bool
     ensures { result ≡ rule.gives_opcodes name.now.bytes decl.now }
 {
     match decl {
         Decl::SlotOpcodes(x) => is_named(name, &x.slot),
-        _ => false,
-    }
-}
-
-fn schedules(name: &Leaf, decl: &Decl) -> bool
-    ensures { result ≡ plan.schedules name.now.bytes decl.now }
-{
-    match decl {
-        Decl::Schedule(x) => listed(name, x.operations.as_slice()),
         _ => false,
     }
 }
@@ -279,7 +247,6 @@ impl Test<Decl> for Declares<'_> {
 
     fn holds_of(&self, decl: &Decl) -> bool {
         match self.sort {
-            Sort::Any => spells(self.name, declared_name(decl)),
             Sort::Operation => declares_operation(self.name, decl),
             Sort::Function => declares_function(self.name, decl),
             Sort::Table => declares_table(self.name, decl),
@@ -290,10 +257,7 @@ impl Test<Decl> for Declares<'_> {
             Sort::Queue => declares_queue(self.name, decl),
             Sort::Link => declares_link(self.name, decl),
             Sort::Kind => declares_kind(self.name, decl),
-            Sort::Short => has_short(self.name, decl),
-            Sort::Slot => has_slot(self.name, decl),
             Sort::SlotOpcodes => gives_opcodes(self.name, decl),
-            Sort::Scheduled => schedules(self.name, decl),
         }
     }
 }

@@ -1,4 +1,4 @@
-//! Rules 26 to 30: schedules, and what the slots of a format hold.
+//! Rules 27 to 30: schedules, and what the slots of a format hold.
 
 ghost use Rattle.std.specs.Prelude.{◌≡◌, ◌==◌, ◌≤◌, ◌<◌, ◌+◌, min, map, not, option_copied, length, List};
 ghost use Rattle.std.specs.List.{list_any, find};
@@ -10,139 +10,10 @@ use crate::each::{
     Judge, JudgeBehind, Measure, Test, first, greatest, least_behind, least_in, some, total,
 };
 use crate::least::{earlier, when};
-use crate::names::{Declares, Sort, Way, among, arguments, goes, has, is_text, links, listed};
+use crate::names::{Declares, Sort, Way, arguments, goes, has, is_text, links};
 use tie_grammar::symbol::{Leaf, Stage};
 use tie_grammar::tree::{Decl, Link, ScheduleItem, Tree};
 use tie_mean::names::is_named;
-
-// ---- 26
-
-#[derive(Clone, Copy)]
-struct ScheduledAgain<'a> {
-    before: &'a [Decl],
-}
-
-impl Judge<Leaf> for ScheduledAgain<'_> {
-    ghost use Rattle.tie_rules.specs.Schedules.{scheduled_again};
-
-    ghost places = { λ s. scheduled_again s.before.now };
-
-    fn judge(&self, name: &Leaf) -> Option<u32> {
-        when(among(self.before, Sort::Scheduled, name), name.place)
-    }
-}
-
-/// Items that use an operand.
-#[derive(Clone, Copy)]
-struct UsesOperand<'a> {
-    name: &'a Leaf,
-}
-
-impl Test<ScheduleItem> for UsesOperand<'_> {
-    ghost use Rattle.tie_rules.specs.Schedules.{uses_operand};
-
-    ghost holds = { λ s. uses_operand s.name.now.bytes };
-
-    fn holds_of(&self, item: &ScheduleItem) -> bool {
-        match item {
-            ScheduleItem::Use(names, _) => listed(self.name, names.as_slice()),
-            ScheduleItem::Def(_, _) => false,
-        }
-    }
-}
-
-/// Items that define an operand.
-#[derive(Clone, Copy)]
-struct DefinesOperand<'a> {
-    name: &'a Leaf,
-}
-
-impl Test<ScheduleItem> for DefinesOperand<'_> {
-    ghost use Rattle.tie_rules.specs.Schedules.{defines_operand};
-
-    ghost holds = { λ s. defines_operand s.name.now.bytes };
-
-    fn holds_of(&self, item: &ScheduleItem) -> bool {
-        match item {
-            ScheduleItem::Use(_, _) => false,
-            ScheduleItem::Def(names, _) => listed(self.name, names.as_slice()),
-        }
-    }
-}
-
-#[derive(Clone, Copy)]
-struct UsedAgain<'a> {
-    before: &'a [ScheduleItem],
-}
-
-impl JudgeBehind<Leaf> for UsedAgain<'_> {
-    ghost use Rattle.tie_rules.specs.Schedules.{used_again};
-
-    ghost places = { λ s. used_again s.before.now };
-
-    fn judge(&self, others: &[Leaf], name: &Leaf) -> Option<u32> {
-        let again = listed(name, others) || some(&UsesOperand { name }, self.before);
-        when(again, name.place)
-    }
-}
-
-#[derive(Clone, Copy)]
-struct DefinedAgain<'a> {
-    before: &'a [ScheduleItem],
-}
-
-impl JudgeBehind<Leaf> for DefinedAgain<'_> {
-    ghost use Rattle.tie_rules.specs.Schedules.{defined_again};
-
-    ghost places = { λ s. defined_again s.before.now };
-
-    fn judge(&self, others: &[Leaf], name: &Leaf) -> Option<u32> {
-        let again = listed(name, others) || some(&DefinesOperand { name }, self.before);
-        when(again, name.place)
-    }
-}
-
-#[derive(Clone, Copy)]
-struct OperandAgain;
-
-impl JudgeBehind<ScheduleItem> for OperandAgain {
-    ghost use Rattle.tie_rules.specs.Schedules.{operand_again};
-
-    ghost places = { λ _. operand_again };
-
-    fn judge(&self, before: &[ScheduleItem], item: &ScheduleItem) -> Option<u32> {
-        match item {
-            ScheduleItem::Use(names, _) => least_behind(&UsedAgain { before }, names.as_slice()),
-            ScheduleItem::Def(names, _) => least_behind(&DefinedAgain { before }, names.as_slice()),
-        }
-    }
-}
-
-#[derive(Clone, Copy)]
-struct ScheduleTwice;
-
-#[tactic(auto, using(crate::proofs::Places::places))]
-impl JudgeBehind<Decl> for ScheduleTwice {
-    ghost use Rattle.tie_rules.specs.Schedules.{schedule_twice_at};
-
-    ghost places = { λ _. schedule_twice_at };
-
-    fn judge(&self, before: &[Decl], decl: &Decl) -> Option<u32> {
-        match decl {
-            Decl::Schedule(x) => {
-                let operations = least_in(&ScheduledAgain { before }, x.operations.as_slice());
-                earlier(operations, least_behind(&OperandAgain, x.items.as_slice()))
-            }
-            _ => None,
-        }
-    }
-}
-
-pub fn schedule_twice(tree: &Tree) -> Option<u32>
-    ensures { result ≡ spec.least (rule.schedule_twice tree.now) }
-{
-    least_behind(&ScheduleTwice, tree.declarations.as_slice())
-}
 
 // ---- 27
 

@@ -213,7 +213,11 @@ impl Judge<Expr> for SizeHere<'_, '_, '_> {
     ghost places = { λ s. size_here (seen_widths s.body.now.tree.now s.body.now.decl.now) };
 
     fn judge(&self, x: &Expr) -> Option<u32> {
-        when(size(self.body, x) > 128, start(x))
+        if size(self.body, x) > 128 {
+            Some(start(x))
+        } else {
+            None
+        }
     }
 }
 

@@ -21,7 +21,7 @@ fn judged(alloc: Global, text: &str) -> Result<Option<(u8, u32)>, Fail> {
 }
 
 /// Each text is in two pieces, and its fault is where the second begins; rule 0 is none.
-const TEXTS: [(&str, &str, u8); 43] = [
+const TEXTS: [(&str, &str, u8); 47] = [
     ("state A 1\nstate ", "A 1", 1),
     ("state ", "AR 1", 1),
     ("operation ", "Addx2 {} {} {}", 1),
@@ -103,6 +103,26 @@ const TEXTS: [(&str, &str, u8); 43] = [
         "operation O {in AR a} {} {} schedule s {O} {use a Estage;} schedule t {",
         "O} {}",
         26,
+    ),
+    (
+        "operation O {in AR a} {} {} schedule s {O} {use a, ",
+        "a Estage;}",
+        26,
+    ),
+    (
+        "operation O {in AR a, out AR r} {} {assign r = a;} schedule s {O} {use a Estage; def r Mstage; def ",
+        "r Estage;}",
+        26,
+    ),
+    (
+        "operation O {in AR a} {} {} schedule s {O} {use a Estage; use ",
+        "a Mstage;} schedule t {O} {}",
+        26,
+    ),
+    (
+        "operation O {inout AR a} {} {assign a = a;} schedule s {O, O} {use a Estage; def a Estage;}",
+        "",
+        0,
     ),
     (
         "operation MYADD {out AR r, in AR a, in AR b} {} {assign r = a + b;}\nschedule s {MYADD} {use a Mstage; def r ",

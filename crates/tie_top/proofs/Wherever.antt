@@ -1,20 +1,26 @@
 -- Each status comes wherever its cause holds.
-use Rattle.std.proofs.Common.{◌≡◌, ◌⊎◌, ℕ, ◌≤◌, ◌<◌, List, [], ◌∷◌, ◌++◌, length, Option, Some, Result, Ok, Err, refl, sym, ap, subst, inl, inr, ◌∙◌, arith}
+use Rattle.std.proofs.Common.{◌≡◌, ◌⊎◌, ℕ, ◌≤◌, ◌<◌, List, [], ◌∷◌, length, Option, Some, Result, Ok, Err, refl, sym, ap, subst, inl, inr, ◌∙◌, arith}
 use Rattle.std.proofs.lemmas.List.{append-nil}
-use Rattle.tie_io.specs.Counts.{Rose}
+use Rattle.tie_io.specs.Reading.{IsLonger}
 use Rattle.tie_io.specs.Writing.{Grew, GrewWithin}
-use Rattle.xt_exec.specs.State.{State, first_state}
-use Rattle.xt_exec.specs.Run.{Stopped}
-use Rattle.xt_exec.proofs.Determined.{same_stop}
+use Rattle.hex_text.specs.declared.hexadecimal.HexRule.{HexRule}
+use Rattle.hex_text.specs.Hexadecimal.{hex_bytes}
+use Rattle.tie_front.specs.declared.refusal.TieRule.{TieRule}
+use Rattle.tie_front.proofs.Laws.{one_refusal, not_refused, one_refusal_alone, not_refused_alone}
+use Rattle.tie_words.specs.Words.{Meant, Check, Exec, ExecTie, Accepts, WrongAt}
+use Rattle.tie_words.proofs.WordLemmas.{one_command, one_place}
+use Rattle.tie_top.specs.declared.status.Status.{Status}
 use Rattle.tie_top.specs.declared.status.Status.TheVariants as statuses
-use Rattle.tie_top.specs.declared.refusal.Refusal.TheVariants.{Usage, ReadFault, TooLong, TextRefused, NoMemory}
-use Rattle.tie_top.specs.declared.hexadecimal.HexRule.{HexRule}
-use Rattle.tie_top.specs.Words.{Exec, WrongAt}
-use Rattle.tie_top.specs.Meaning.{Verdict, ReadFails, IsTooLong, HasBytes, HexThen, IsHex, NoHex, Reports, reported, ExecMeans}
+use Rattle.tie_top.specs.declared.refusal.Refusal.{Refusal}
+use Rattle.tie_top.specs.declared.refusal.Refusal.TheVariants.{Usage, ReadFault, TooLong, TieRefused, HexRefused, NoMemory}
+use Rattle.tie_top.specs.declared.report.Report.{Report}
+use Rattle.tie_top.specs.Files.{Shelved, IsTextOf, File, Tie, Alone, Hex, files, name_of, IsAccepted, Refuses, IsWrong, ReadFails, IsTooLong, TextIsWrong, FirstWrong}
+use Rattle.tie_top.specs.Meaning.{Yields}
 use Rattle.tie_top.specs.Delivery.{Sunk, Delivered, Reported, Wanted}
-use Rattle.tie_top.specs.Answers.{Call, IsRight, NamesText, DeliveredIfRead, IsNoHex, Stops, Completes, IsComplete}
+use Rattle.tie_top.specs.Answers.{Call, IsRight, AreTold, FailsToRead, MustRefuse, AreAccepted, Shows, NoneRose, IsComplete}
 use Rattle.tie_top.proofs.Writing.{Grew-nothing}
-use Rattle.tie_top.proofs.WordLemmas.{one_command, one_place}
+
+-- ---- want of memory
 
 -- memory ran out, with nothing written but a first part of its line
 pub record RanOut (c : Call) : Type 0 where
@@ -32,107 +38,181 @@ ran_out c (inl (p, (grew, same))) = record { status = p; wanted = (untouched_wit
 ran_out c (inr (inl (p, ne, f))) = absurd (ne refl)
 ran_out c (inr (inr (p, w))) = record { status = p; wanted = w }
 
--- no part of a text is a first part of any other
-none_within : (before after : Option (List ℕ)) (text : List ℕ) → GrewWithin before after [] → GrewWithin before after text
-none_within before after text (front, (rest, e), grew) =
-    let none : front ≡ [] = no_front front rest e in
-    ([], (text, refl), subst (λ f. Grew before after f) none grew)
-  where
-    no_front : (front rest : List ℕ) → [] ≡ front ++ rest → front ≡ []
-    no_front [] rest e = refl
-    no_front (b ∷ bs) rest e = absurd cc
+-- then any refusal was delivered so
+ran_out_delivers : (c : Call) (refusal : Refusal) → RanOut c → Delivered c.out c.err (Err refusal) c.status
+ran_out_delivers c refusal r = inr (inr (r.status, r.wanted))
 
--- then any verdict was delivered so
-ran_out_delivers : (c : Call) (v : Verdict) → RanOut c → Delivered c.out c.err v c.status
-ran_out_delivers c (Ok report) r = inr (inr (r.status, (none_within _ _ _ r.wanted.0, r.wanted.1)))
-ran_out_delivers c (Err refusal) r = inr (inr (r.status, r.wanted))
+-- ---- words
 
 pub usage_where : (c : Call) → IsRight c → (place : ℕ) → WrongAt c.words place → Delivered c.out c.err (Err (Usage place)) c.status
-usage_where c (v, inl p, d) place wrong = ran_out_delivers c (Err (Usage place)) (ran_out c (subst (λ w. Delivered c.out c.err w c.status) p d))
+usage_where c (v, inl p, d) place wrong = ran_out_delivers c (Usage place) (ran_out c (subst (λ w. Delivered c.out c.err w c.status) p d))
 usage_where c (v, inr (inl (command, accepts, h)), d) place wrong = absurd (wrong.refused command accepts)
 usage_where c (v, inr (inr (other, is_wrong, p)), d) place wrong =
     let e : v ≡ Err (Usage place) = p ∙ ap (λ n. Err (Usage n)) (one_place c.words other place is_wrong wrong) in
     subst (λ w. Delivered c.out c.err w c.status) e d
 
--- what becomes of exec over a file that the shelf tells
-pub data Judged (c : Call) (name text : List ℕ) : Type 0 where
-  Fails : Rose (c.shelf.before name) (c.shelf.after name) → Delivered c.out c.err (Err (ReadFault name)) c.status → Judged c name text
-  Longer : 1048576 < length text → Delivered c.out c.err (Err (TooLong name)) c.status → Judged c name text
-  Short : length text ≤ 1048576 → (v : Verdict) → HexThen name text Reports v → Delivered c.out c.err v c.status → Judged c name text
-  Wants : RanOut c → Judged c name text
+-- what becomes of a command
+data Answered (c : Call) (command : Meant) : Type 0 where
+  Reports : (report : Report) → Yields c.shelf command report → Delivered c.out c.err (Ok report) c.status → Answered c command
+  Refusing : (refusal : Refusal) → FirstWrong c.shelf (files command) refusal → Delivered c.out c.err (Err refusal) c.status → Answered c command
+  Wants : RanOut c → Answered c command
 
-exec_judged : (c : Call) (name text : List ℕ) (v : Verdict) → c.shelf.holds name ≡ Some text → ExecMeans c.shelf name v → Delivered c.out c.err v c.status → Judged c name text
-exec_judged c name text v told (ReadFails p rose) d = Fails rose (subst (λ w. Delivered c.out c.err w c.status) p d)
-exec_judged c name text v told (IsTooLong p front longer) d =
-    let l = rw told at longer in
-    Longer l.1.0 (subst (λ w. Delivered c.out c.err w c.status) p d)
-exec_judged c name text v told (HasBytes bytes short file h) d =
-    let same : text ≡ bytes = rw told at file in
-    Short (rw same short) v (rw same h) d
+answered : (c : Call) → IsRight c → (command : Meant) → Accepts c.words command → Answered c command
+answered c (v, inl p, d) command a = Wants (ran_out c (subst (λ w. Delivered c.out c.err w c.status) p d))
+answered c (Ok report, inr (inl (other, accepts, h)), d) command a = Reports report (subst (λ m. Yields c.shelf m report) (one_command c.words other command accepts a) h) d
+answered c (Err refusal, inr (inl (other, accepts, h)), d) command a = Refusing refusal (subst (λ m. FirstWrong c.shelf (files m) refusal) (one_command c.words other command accepts a) h) d
+answered c (v, inr (inr (place, wrong, p)), d) command a = absurd (wrong.refused command a)
 
-pub judged : (c : Call) → IsRight c → (name text : List ℕ) → NamesText c name text → Judged c name text
-judged c (v, inl p, d) name text n = Wants (ran_out c (subst (λ w. Delivered c.out c.err w c.status) p d))
-judged c (v, inr (inl (Exec other, accepts, h)), d) name text n =
-    let same : Exec other ≡ Exec name = one_command c.words (Exec other) (Exec name) accepts n.0 in
-    let e : other ≡ name = cc in
-    exec_judged c name text v n.1 (subst (λ m. ExecMeans c.shelf m v) e h) d
-judged c (v, inr (inr (place, wrong, p)), d) name text n = absurd (wrong.refused (Exec name) n.0)
+-- ---- one file
 
-pub too_long_where : (c : Call) → IsRight c → (name text : List ℕ) → NamesText c name text → 1048576 < length text → DeliveredIfRead c name (Err (TooLong name))
-too_long_where c r name text n long = at (judged c r name text n)
+abbrev IsTold : Shelved → List ℕ → Type 0
+IsTold s name = (text : List ℕ) × (s.holds name ≡ Some text)
+
+-- the refusal is a fault of reading
+abbrev IsReadFault : Refusal → Type 0
+IsReadFault refusal = (name : List ℕ) × (refusal ≡ ReadFault name)
+
+same_text : (s : Shelved) (name told a b : List ℕ) → s.holds name ≡ Some told → IsTextOf s name a → IsTextOf s name b → a ≡ b
+same_text s name told a b e p q = sym (rw e at p.1) ∙ (rw e at q.1)
+
+not_longer : (s : Shelved) (name told a front : List ℕ) → s.holds name ≡ Some told → IsTextOf s name a → IsLonger (s.holds name) 1048576 front → ⊥
+not_longer s name told a front e p q =
+    let same : told ≡ a = rw e at p.1 in
+    let long : 1048576 < length told = (rw e at q.1).0 in
+    let short : length told ≤ 1048576 = rw same p.0 in
+    omega arith
+
+-- what a file accepted has: its text isn't refused
+accepted_text : (s : Shelved) (file : File) → IsAccepted s file → (text : List ℕ) × IsTextOf s (name_of file) text × ((e : Refusal) → ¬ Refuses file text e)
+accepted_text s (Tie name) (d, h) = (h.text, h.read, (λ e. λ (rule, place, bad, p). not_refused h.text d rule place h.is bad))
+accepted_text s (Alone name) (d, h) = (h.text, h.read, (λ e. λ (rule, place, bad, p). not_refused_alone h.text d rule place h.is bad))
+accepted_text s (Hex name) (image, h) = (h.text, h.read, (λ e. λ (rule, place, bad, p). let both : Ok image ≡ Err (rule, place) = sym h.is ∙ bad in absurd cc))
+
+-- a file that is told and accepted is wrong only where its read fails
+accepted_wrong : (s : Shelved) (file : File) (e : Refusal) → IsTold s (name_of file) → IsAccepted s file → IsWrong s (name_of file) (Refuses file) e → IsReadFault e
+accepted_wrong s file e told a (ReadFails p rose) = (name_of file, p)
+accepted_wrong s file e told a (IsTooLong p front longer) =
+    let h = accepted_text s file a in absurd (not_longer s (name_of file) told.0 h.0 front told.1 h.1 longer)
+accepted_wrong s file e told a (TextIsWrong text read bad) =
+    let h = accepted_text s file a in
+    let same : text ≡ h.0 = same_text s (name_of file) told.0 text h.0 told.1 read h.1 in
+    absurd (h.2 e (subst (λ t. Refuses file t e) same bad))
+
+-- a text is refused in one way
+same_fault : (a b : HexRule × ℕ) (x : Result (List ℕ) (HexRule × ℕ)) → x ≡ Err a → x ≡ Err b → a ≡ b
+same_fault a b x p q = cc
+
+one_way : (file : File) (text : List ℕ) (e f : Refusal) → Refuses file text e → Refuses file text f → e ≡ f
+one_way (Tie name) text e f (r, p, a, is) (s, q, b, also) =
+    let one = one_refusal text r s p q a b in is ∙ ap (λ z. TieRefused name z p) one.rule ∙ ap (λ z. TieRefused name s z) one.place ∙ sym also
+one_way (Alone name) text e f (r, p, a, is) (s, q, b, also) =
+    let one = one_refusal_alone text r s p q a b in is ∙ ap (λ z. TieRefused name z p) one.rule ∙ ap (λ z. TieRefused name s z) one.place ∙ sym also
+one_way (Hex name) text e f (r, p, a, is) (s, q, b, also) =
+    let one : (r, p) ≡ (s, q) = same_fault (r, p) (s, q) (hex_bytes 65536 text) a b in
+    is ∙ ap (λ (z : HexRule × ℕ). HexRefused name z.0 z.1) one ∙ sym also
+
+-- two refusals of a told file are one, or one is a fault of reading
+one_wrong : (s : Shelved) (file : File) (e f : Refusal) → IsTold s (name_of file) → IsWrong s (name_of file) (Refuses file) e → IsWrong s (name_of file) (Refuses file) f
+    → (e ≡ f) ⊎ IsReadFault e ⊎ IsReadFault f
+one_wrong s file e f told (ReadFails p rose) b = inr (inl (name_of file, p))
+one_wrong s file e f told (IsTooLong p front longer) (ReadFails q rose) = inr (inr (name_of file, q))
+one_wrong s file e f told (IsTooLong p front longer) (IsTooLong q other also) = inl (p ∙ sym q)
+one_wrong s file e f told (IsTooLong p front longer) (TextIsWrong text read bad) = absurd (not_longer s (name_of file) told.0 text front told.1 read longer)
+one_wrong s file e f told (TextIsWrong text read bad) (ReadFails q rose) = inr (inr (name_of file, q))
+one_wrong s file e f told (TextIsWrong text read bad) (IsTooLong q other also) = absurd (not_longer s (name_of file) told.0 text other told.1 read also)
+one_wrong s file e f told (TextIsWrong a read bad) (TextIsWrong b also nor) =
+    inl (one_way file a e f bad (subst (λ t. Refuses file t f) (same_text s (name_of file) told.0 b a told.1 also read) nor))
+
+-- ---- all files
+
+-- a refusal that is no fault of reading
+abbrev IsSettled : Refusal → Type 0
+IsSettled refusal = IsReadFault refusal → ⊥
+
+one_first : (s : Shelved) (fs : List File) (e f : Refusal) → AreTold s fs → IsSettled e → FirstWrong s fs e → FirstWrong s fs f → (e ≡ f) ⊎ IsReadFault f
+one_first s [] e f told settled a b = absurd a
+one_first s (file ∷ fs) e f told settled (inl a) (inl b) = settle (one_wrong s file e f told.0 a b)
   where
-    at : Judged c name text → DeliveredIfRead c name (Err (TooLong name))
-    at (Fails rose d) = inr (rose, d)
-    at (Longer l d) = inl d
-    at (Short s v h d) = absurd (omega arith)
-    at (Wants out) = inl (ran_out_delivers c (Err (TooLong name)) out)
+    settle : (e ≡ f) ⊎ IsReadFault e ⊎ IsReadFault f → (e ≡ f) ⊎ IsReadFault f
+    settle (inl p) = inl p
+    settle (inr (inl p)) = absurd (settled p)
+    settle (inr (inr p)) = inr p
+one_first s (file ∷ fs) e f told settled (inl a) (inr b) = absurd (settled (accepted_wrong s file e told.0 b.0 a))
+one_first s (file ∷ fs) e f told settled (inr a) (inl b) = inr (accepted_wrong s file f told.0 a.0 b)
+one_first s (file ∷ fs) e f told settled (inr a) (inr b) = one_first s fs e f told.1 settled a.1 b.1
 
-abbrev refuses_so : List ℕ → HexRule × ℕ → Verdict
-refuses_so name fault = Err (TextRefused name fault.0 fault.1)
+-- accepted files have no refusal but faults of reading
+none_first : (s : Shelved) (fs : List File) (e : Refusal) → AreTold s fs → AreAccepted s fs → FirstWrong s fs e → IsReadFault e
+none_first s [] e told a h = absurd h
+none_first s (file ∷ fs) e told a (inl h) = accepted_wrong s file e told.0 a.0 h
+none_first s (file ∷ fs) e told a (inr h) = none_first s fs e told.1 a.1 h.1
 
-same_fault : (name : List ℕ) (a b : HexRule × ℕ) (x y : Result (List ℕ) (HexRule × ℕ)) → x ≡ Err a → y ≡ Err b → x ≡ y → refuses_so name a ≡ refuses_so name b
-same_fault name a b x y p q r = let same : a ≡ b = cc in ap (refuses_so name) same
+-- where there is a report, all files are accepted
+yields_accepted : (s : Shelved) (command : Meant) (report : Report) → Yields s command report → AreAccepted s (files command)
+yields_accepted s (Check tie) report (d, h, p) = ((d, h), tt)
+yields_accepted s (Exec hex) report (image, h, r) = ((image, h), tt)
+yields_accepted s (ExecTie hex tie) report (image, d, h, k, r) = ((image, h), ((d, k), tt))
 
-pub text_refused_where : (c : Call) → IsRight c → (name text : List ℕ) (rule : HexRule) (place : ℕ)
-    → NamesText c name text → IsNoHex text rule place → DeliveredIfRead c name (Err (TextRefused name rule place))
-text_refused_where c r name text rule place n (short, refuses) = at (judged c r name text n)
+-- a fault of reading that was answered
+fails : (c : Call) (command : Meant) (refusal : Refusal) → IsReadFault refusal → FirstWrong c.shelf (files command) refusal → Delivered c.out c.err (Err refusal) c.status → FailsToRead c command
+fails c command refusal (name, p) first d = (name, subst (FirstWrong c.shelf (files command)) p first, subst (λ r. Delivered c.out c.err (Err r) c.status) p d)
+
+pub must_refuse : (c : Call) → IsRight c → (refusal : Refusal) → (IsReadFault refusal → ⊥) → MustRefuse c refusal
+must_refuse c r refusal settled command a told first = at (answered c r command a)
   where
-    at : Judged c name text → DeliveredIfRead c name (Err (TextRefused name rule place))
-    at (Fails rose d) = inr (rose, d)
-    at (Longer l d) = absurd (omega arith)
-    at (Short s v (IsHex image is h) d) = let e : Ok image ≡ Err (rule, place) = sym is ∙ refuses in absurd cc
-    at (Short s v (NoHex other at_place is p) d) =
-        inl (subst (λ w. Delivered c.out c.err w c.status) (p ∙ same_fault name (other, at_place) (rule, place) _ _ is refuses refl) d)
-    at (Wants out) = inl (ran_out_delivers c (Err (TextRefused name rule place)) out)
+    by : (other : Refusal) → FirstWrong c.shelf (files command) other → Delivered c.out c.err (Err other) c.status → (refusal ≡ other) ⊎ IsReadFault other
+        → Delivered c.out c.err (Err refusal) c.status ⊎ FailsToRead c command
+    by other h d (inl p) = inl (subst (λ z. Delivered c.out c.err (Err z) c.status) (sym p) d)
+    by other h d (inr p) = inr (fails c command other p h d)
 
-pub report_where : (c : Call) → IsRight c → (name text : List ℕ) (retired : ℕ) (end : State)
-    → NamesText c name text → Stops text retired end → DeliveredIfRead c name (Ok (reported 1000000 retired end))
-report_where c r name text retired end n (image, (short, is), stopped) = at (judged c r name text n)
+    at : Answered c command → Delivered c.out c.err (Err refusal) c.status ⊎ FailsToRead c command
+    at (Reports report y d) = absurd (settled (none_first c.shelf (files command) refusal told (yields_accepted c.shelf command report y) first))
+    at (Refusing other h d) = by other h d (one_first c.shelf (files command) refusal other told settled first h)
+    at (Wants out) = inl (ran_out_delivers c refusal out)
+
+pub too_long_where : (c : Call) → IsRight c → (name : List ℕ) → MustRefuse c (TooLong name)
+too_long_where c r name = must_refuse c r (TooLong name) (λ (n, p). absurd cc)
+
+pub tie_refused_where : (c : Call) → IsRight c → (name : List ℕ) (rule : TieRule) (place : ℕ) → MustRefuse c (TieRefused name rule place)
+tie_refused_where c r name rule place = must_refuse c r (TieRefused name rule place) (λ (n, p). absurd cc)
+
+pub text_refused_where : (c : Call) → IsRight c → (name : List ℕ) (rule : HexRule) (place : ℕ) → MustRefuse c (HexRefused name rule place)
+text_refused_where c r name rule place = must_refuse c r (HexRefused name rule place) (λ (n, p). absurd cc)
+
+pub report_where : (c : Call) (status : Status) → IsRight c → (command : Meant) → Accepts c.words command → AreTold c.shelf (files command) → AreAccepted c.shelf (files command)
+    → ((report : Report) → Yields c.shelf command report → report.status ≡ status)
+    → ((report : Report) × (report.status ≡ status) × Yields c.shelf command report × Delivered c.out c.err (Ok report) c.status)
+    ⊎ FailsToRead c command ⊎ (c.status ≡ statuses.NoMemory)
+report_where c status r command a told fine all = at (answered c r command a)
   where
-    at : Judged c name text → DeliveredIfRead c name (Ok (reported 1000000 retired end))
-    at (Fails rose d) = inr (rose, d)
-    at (Longer l d) = absurd (omega arith)
-    at (Short s v (IsHex other also (k, t, stops, p)) d) =
-        let e : other ≡ image = cc in
-        let one = same_stop 1000000 (first_state 65536 image) k retired t end (subst (λ i. Stopped 1000000 (first_state 65536 i) k t) e stops) stopped in
-        inl (subst (λ w. Delivered c.out c.err w c.status) (p ∙ ap (λ i. Ok (reported 1000000 i t)) one.0 ∙ ap (λ u. Ok (reported 1000000 retired u)) one.1) d)
-    at (Short s v (NoHex rule place refuses p) d) = let e : Ok image ≡ Err (rule, place) = sym is ∙ refuses in absurd cc
-    at (Wants out) = inl (ran_out_delivers c (Ok (reported 1000000 retired end)) out)
+    at : Answered c command
+        → ((report : Report) × (report.status ≡ status) × Yields c.shelf command report × Delivered c.out c.err (Ok report) c.status)
+        ⊎ FailsToRead c command ⊎ (c.status ≡ statuses.NoMemory)
+    at (Reports report y d) = inl (report, all report y, y, d)
+    at (Refusing other h d) = inr (inl (fails c command other (none_first c.shelf (files command) other told fine h) h d))
+    at (Wants out) = inr (inr out.status)
+
+-- no read failed, so no fault of reading is the answer
+none_failed : (s : Shelved) (fs : List File) (name : List ℕ) → NoneRose s fs → FirstWrong s fs (ReadFault name) → ⊥
+none_failed s [] name none h = h
+none_failed s (file ∷ fs) name none (inl (ReadFails p rose)) = none.0 rose
+none_failed s (file ∷ fs) name none (inl (IsTooLong p front longer)) = absurd cc
+none_failed s (Tie n ∷ fs) name none (inl (TextIsWrong text read (rule, place, h, p))) = absurd cc
+none_failed s (Alone n ∷ fs) name none (inl (TextIsWrong text read (rule, place, h, p))) = absurd cc
+none_failed s (Hex n ∷ fs) name none (inl (TextIsWrong text read (rule, place, h, p))) = absurd cc
+none_failed s (file ∷ fs) name none (inr h) = none_failed s fs name none.1 h.1
 
 pub complete : (c : Call) → IsRight c → IsComplete c
-complete c r name text image n (short, is) steady sound = at (judged c r name text n)
+complete c r command a told fine steady sound = at (answered c r command a)
   where
-    reports : (k : ℕ) (t : State) → Stopped 1000000 (first_state 65536 image) k t → Reported c.out c.err (reported 1000000 k t) c.status
-        → Completes c image ⊎ (c.status ≡ statuses.NoMemory)
-    reports k t stops (inl (p, w)) = inl (k, t, stops, p, w)
-    reports k t stops (inr (inl (p, f))) = absurd (sound f.0)
-    reports k t stops (inr (inr (p, w))) = inr p
+    reports : (report : Report) → Yields c.shelf command report → Reported c.out c.err report c.status → ((report : Report) × Shows c command report) ⊎ (c.status ≡ statuses.NoMemory)
+    reports report y (inl (p, w)) = inl (report, (y, p, w))
+    reports report y (inr (inl (p, f))) = absurd (sound f.0)
+    reports report y (inr (inr (p, w))) = inr p
 
-    at : Judged c name text → Completes c image ⊎ (c.status ≡ statuses.NoMemory)
-    at (Fails rose d) = absurd (steady rose)
-    at (Longer l d) = absurd (omega arith)
-    at (Short s v (IsHex other also (k, t, stops, p)) d) =
-        let e : other ≡ image = cc in
-        reports k t (subst (λ i. Stopped 1000000 (first_state 65536 i) k t) e stops) (subst (λ w. Delivered c.out c.err w c.status) p d)
-    at (Short s v (NoHex rule place refuses p) d) = let e : Ok image ≡ Err (rule, place) = sym is ∙ refuses in absurd cc
+    at : Answered c command → ((report : Report) × Shows c command report) ⊎ (c.status ≡ statuses.NoMemory)
+    at (Reports report y d) = reports report y d
+    at (Refusing other h d) =
+        let fault = none_first c.shelf (files command) other told fine h in
+        absurd (none_failed c.shelf (files command) fault.0 steady (subst (FirstWrong c.shelf (files command)) fault.1 h))
     at (Wants out) = inr out.status

@@ -1,23 +1,18 @@
 -- The meaning of a call in one fact, and the cause of each status.
-use Rattle.std.specs.Prelude.{◌≡◌, ◌⊎◌, ℕ, ◌<◌, ◌≤◌, List, length, map, string_bytes, Option, Some, Ok, Err}
+use Rattle.std.specs.Prelude.{◌≡◌, ◌⊎◌, ℕ, List, [], ◌∷◌, map, string_bytes, Option, Some, Ok, Err}
 use Rattle.std.specs.declared.string.String.{String}
 use Rattle.tie_io.specs.Counts.{Rose}
-use Rattle.tie_io.specs.Reading.{IsFile, IsLonger}
-use Rattle.xt_exec.specs.declared.ending.Ending.{Ending}
-use Rattle.xt_exec.specs.declared.ending.Ending.TheVariants as endings
-use Rattle.xt_exec.specs.declared.ending.Trap.{Trap}
-use Rattle.xt_exec.specs.State.{State, first_state}
-use Rattle.xt_exec.specs.Run.{Stopped}
+use Rattle.hex_text.specs.declared.hexadecimal.HexRule.{HexRule}
+use Rattle.tie_front.specs.declared.refusal.TieRule.{TieRule}
+use Rattle.tie_words.specs.Words.{Meant, Accepts, WrongAt}
 use Rattle.tie_top.specs.declared.status.Status.{Status}
 use Rattle.tie_top.specs.declared.status.Status.TheVariants as statuses
 use Rattle.tie_top.specs.declared.refusal.Refusal.{Refusal}
-use Rattle.tie_top.specs.declared.refusal.Refusal.TheVariants.{Usage, ReadFault, TooLong, TextRefused}
-use Rattle.tie_top.specs.declared.hexadecimal.HexRule.{HexRule}
+use Rattle.tie_top.specs.declared.refusal.Refusal.TheVariants.{Usage, ReadFault, TooLong, TieRefused, HexRefused}
 use Rattle.tie_top.specs.declared.report.Report.{Report}
-use Rattle.tie_top.specs.Hexadecimal.{hex_bytes}
-use Rattle.tie_top.specs.Words.{Exec, Accepts, WrongAt}
-use Rattle.tie_top.specs.Printing.{line_of, report_text, end_status}
-use Rattle.tie_top.specs.Meaning.{Shelved, shelved, Verdict, Means, UnlessMemory, reported}
+use Rattle.tie_top.specs.Printing.{line_of}
+use Rattle.tie_top.specs.Files.{Shelved, shelved, File, files, name_of, IsAccepted, FirstWrong}
+use Rattle.tie_top.specs.Meaning.{Verdict, Yields, Means, UnlessMemory}
 use Rattle.tie_top.specs.Delivery.{Sunk, sunk, Delivered, Whole, Faulted}
 
 -- a call: its words, the shelf and the two sinks over it, and its status
@@ -53,74 +48,83 @@ UsageIsRight c =
     (c.status ≡ statuses.Usage → (place : ℕ) × WrongAt c.words place × Says c (Usage place))
     × ((place : ℕ) → WrongAt c.words place → Delivered c.out c.err (Err (Usage place)) c.status)
 
--- the words are those of exec with this file
-abbrev pub Names : Call → List ℕ → Type 0
-Names c name = Accepts c.words (Exec name)
+-- ---- refusals of files
 
--- ReadFault: only where the count of the named file rose
+-- the words are those of a command, the first of whose files that is wrong is refused so, and its line is on err
+abbrev pub IsRefusedSo : Call → Refusal → Type 0
+IsRefusedSo c refusal = (command : Meant) × Accepts c.words command × FirstWrong c.shelf (files command) refusal × Says c refusal
+
+-- ReadFault: only where the count of the file rose
 abbrev pub ReadFaultIsRight : Call → Type 0
 ReadFaultIsRight c =
-    c.status ≡ statuses.ReadFault → (name : List ℕ) × Names c name × Rose (c.shelf.before name) (c.shelf.after name) × Says c (ReadFault name)
+    c.status ≡ statuses.ReadFault → (name : List ℕ) × Rose (c.shelf.before name) (c.shelf.after name) × IsRefusedSo c (ReadFault name)
 
--- the words name a file that the shelf tells
-abbrev pub NamesText : Call → List ℕ → List ℕ → Type 0
-NamesText c name text = Names c name × (c.shelf.holds name ≡ Some text)
+-- the shelf tells the files
+abbrev pub AreTold : Shelved → List File → Type 0
+AreTold s [] = Unit {0}
+AreTold s (file ∷ rest) = ((text : List ℕ) × (s.holds (name_of file) ≡ Some text)) × AreTold s rest
 
--- this verdict was written, or that reading the file failed, and its count rose
-abbrev pub DeliveredIfRead : Call → List ℕ → Verdict → Type 0
-DeliveredIfRead c name verdict =
-    Delivered c.out c.err verdict c.status
-    ⊎ (Rose (c.shelf.before name) (c.shelf.after name) × Delivered c.out c.err (Err (ReadFault name)) c.status)
+-- reading a file of the command failed, and its count rose; all files before it are accepted
+abbrev pub FailsToRead : Call → Meant → Type 0
+FailsToRead c command = (name : List ℕ) × FirstWrong c.shelf (files command) (ReadFault name) × Delivered c.out c.err (Err (ReadFault name)) c.status
 
--- TooLong: exactly where the named file has more than 1,048,576 bytes, and reading it didn't fail
+-- the files of the command are told, and the first wrong one is refused so: then this verdict was written, or a read failed
+abbrev pub MustRefuse : Call → Refusal → Type 0
+MustRefuse c refusal =
+    (command : Meant) → Accepts c.words command → AreTold c.shelf (files command) → FirstWrong c.shelf (files command) refusal
+    → Delivered c.out c.err (Err refusal) c.status ⊎ FailsToRead c command
+
+-- TooLong: exactly where a file has more than 1,048,576 bytes
 abbrev pub TooLongIsRight : Call → Type 0
 TooLongIsRight c =
-    (c.status ≡ statuses.TooLong → (name front : List ℕ) × Names c name × IsLonger (c.shelf.holds name) 1048576 front × Says c (TooLong name))
-    × ((name text : List ℕ) → NamesText c name text → 1048576 < length text → DeliveredIfRead c name (Err (TooLong name)))
+    (c.status ≡ statuses.TooLong → (name : List ℕ) × IsRefusedSo c (TooLong name))
+    × ((name : List ℕ) → MustRefuse c (TooLong name))
 
--- a file of at most 1,048,576 bytes breaks this rule of hexadecimal text of at most 65,536 bytes
-abbrev pub IsNoHex : List ℕ → HexRule → ℕ → Type 0
-IsNoHex text rule place = (length text ≤ 1048576) × (hex_bytes 65536 text ≡ Err (rule, place))
+-- TieRefused: exactly where a TIE text isn't lexed, isn't parsed or breaks a rule
+abbrev pub TieRefusedIsRight : Call → Type 0
+TieRefusedIsRight c =
+    (c.status ≡ statuses.TieRefused → (name : List ℕ) × (rule : TieRule) × (place : ℕ) × IsRefusedSo c (TieRefused name rule place))
+    × ((name : List ℕ) (rule : TieRule) (place : ℕ) → MustRefuse c (TieRefused name rule place))
 
--- the file that the words name breaks this rule at this place, and its line is on err
-abbrev pub SaysNoHex : Call → List ℕ → List ℕ → HexRule → ℕ → Type 0
-SaysNoHex c name text rule place = Names c name × IsFile (c.shelf.holds name) text × IsNoHex text rule place × Says c (TextRefused name rule place)
-
--- TextRefused: exactly where the file isn't hexadecimal text of at most 65,536 bytes
+-- TextRefused: exactly where a text isn't hexadecimal text of at most 65,536 bytes
 abbrev pub TextRefusedIsRight : Call → Type 0
 TextRefusedIsRight c =
-    (c.status ≡ statuses.TextRefused → (name text : List ℕ) × (rule : HexRule) × (place : ℕ) × SaysNoHex c name text rule place)
-    × ((name text : List ℕ) (rule : HexRule) (place : ℕ) → NamesText c name text → IsNoHex text rule place → DeliveredIfRead c name (Err (TextRefused name rule place)))
+    (c.status ≡ statuses.TextRefused → (name : List ℕ) × (rule : HexRule) × (place : ℕ) × IsRefusedSo c (HexRefused name rule place))
+    × ((name : List ℕ) (rule : HexRule) (place : ℕ) → MustRefuse c (HexRefused name rule place))
 
--- a file of at most 1,048,576 bytes is hexadecimal text of an image
-abbrev pub IsHexOf : List ℕ → List ℕ → Type 0
-IsHexOf text image = (length text ≤ 1048576) × (hex_bytes 65536 text ≡ Ok image)
+-- ---- reports
 
--- the image of a file stops so, in 65,536 bytes of memory with a budget of 1,000,000
-abbrev pub Stops : List ℕ → ℕ → State → Type 0
-Stops text retired end = (image : List ℕ) × IsHexOf text image × Stopped 1000000 (first_state 65536 image) retired end
+-- all files are accepted
+abbrev pub AreAccepted : Shelved → List File → Type 0
+AreAccepted s [] = Unit {0}
+AreAccepted s (file ∷ rest) = IsAccepted s file × AreAccepted s rest
 
--- the image of the file that the words name stops so, and its report is whole on out
-abbrev pub Shows : Call → List ℕ → List ℕ → ℕ → State → Type 0
-Shows c name text retired end = Names c name × IsFile (c.shelf.holds name) text × Stops text retired end × Whole c.out c.err (report_text 1000000 retired end)
+-- the report of the command is whole on out, with its status
+abbrev pub Shows : Call → Meant → Report → Type 0
+Shows c command report = Yields c.shelf command report × (c.status ≡ report.status) × Whole c.out c.err report.text
 
--- a status of reports: exactly where the image of the file stops with such an ending
-abbrev pub ReportIsRight : Call → Status → (Ending → Type 0) → Type 0
-ReportIsRight c status Ends =
-    (c.status ≡ status → (name text : List ℕ) × (retired : ℕ) × (end : State) × Ends end.ending × Shows c name text retired end)
-    × ((name text : List ℕ) (retired : ℕ) (end : State) → NamesText c name text → Stops text retired end → Ends end.ending → DeliveredIfRead c name (Ok (reported 1000000 retired end)))
+-- a status of reports: exactly where the report of the command has it
+abbrev pub ReportIsRight : Call → Status → Type 0
+ReportIsRight c status =
+    (c.status ≡ status → (command : Meant) × (report : Report) × Accepts c.words command × (report.status ≡ status) × Shows c command report)
+    × ((command : Meant) → Accepts c.words command → AreTold c.shelf (files command) → AreAccepted c.shelf (files command)
+    → ((report : Report) → Yields c.shelf command report → report.status ≡ status)
+    → ((report : Report) × (report.status ≡ status) × Yields c.shelf command report × Delivered c.out c.err (Ok report) c.status)
+    ⊎ FailsToRead c command ⊎ (c.status ≡ statuses.NoMemory))
 
--- Done: exactly where the processor has halted
+-- Done: exactly where the report is no processor's, or that of one that has halted
 abbrev pub DoneIsRight : Call → Type 0
-DoneIsRight c = ReportIsRight c statuses.Done (λ ending. ending ≡ endings.Halted)
+DoneIsRight c = ReportIsRight c statuses.Done
 
--- Trapped: exactly where the processor has trapped
+-- Trapped: exactly where it is that of a processor that has trapped
 abbrev pub TrappedIsRight : Call → Type 0
-TrappedIsRight c = ReportIsRight c statuses.Trapped (λ ending. (trap : Trap) × (ending ≡ endings.Trapped trap))
+TrappedIsRight c = ReportIsRight c statuses.Trapped
 
--- Unfinished: exactly where the processor still runs, with its budget used up
+-- Unfinished: exactly where it is that of a processor that still runs, with its budget used up
 abbrev pub UnfinishedIsRight : Call → Type 0
-UnfinishedIsRight c = ReportIsRight c statuses.Unfinished (λ ending. ending ≡ endings.Running)
+UnfinishedIsRight c = ReportIsRight c statuses.Unfinished
+
+-- ---- what else may come
 
 -- WriteFault: only where the count of the sink rose that the text goes to
 abbrev pub WriteFaultIsRight : Call → Type 0
@@ -131,20 +135,19 @@ WriteFaultIsRight c =
 
 -- no other status comes
 abbrev pub IsGiven : Status → Type 0
-IsGiven statuses.TieRefused = ⊥
 IsGiven statuses.AsmRefused = ⊥
 IsGiven statuses.NetRefused = ⊥
 IsGiven statuses.Blocked = ⊥
 IsGiven others = Unit {0}
 
--- the report of the one stop of an image is whole on out, with its status
-abbrev pub Completes : Call → List ℕ → Type 0
-Completes c image =
-    (retired : ℕ) × (end : State) × Stopped 1000000 (first_state 65536 image) retired end × (c.status ≡ end_status end.ending) × Whole c.out c.err (report_text 1000000 retired end)
+-- no read of a file failed
+abbrev pub NoneRose : Shelved → List File → Type 0
+NoneRose s [] = Unit {0}
+NoneRose s (file ∷ rest) = ¬ Rose (s.before (name_of file)) (s.after (name_of file)) × NoneRose s rest
 
--- completeness: valid input, no fault of its file and none of out give that report, or want of memory
+-- completeness: files that are told and accepted, no fault of theirs and none of out give the command's report, or want of memory
 abbrev pub IsComplete : Call → Type 0
 IsComplete c =
-    (name text image : List ℕ) → NamesText c name text → IsHexOf text image
-    → ¬ Rose (c.shelf.before name) (c.shelf.after name) → ¬ Rose c.out.faults c.out.faults_after
-    → Completes c image ⊎ (c.status ≡ statuses.NoMemory)
+    (command : Meant) → Accepts c.words command → AreTold c.shelf (files command) → AreAccepted c.shelf (files command)
+    → NoneRose c.shelf (files command) → ¬ Rose c.out.faults c.out.faults_after
+    → ((report : Report) × Shows c command report) ⊎ (c.status ≡ statuses.NoMemory)

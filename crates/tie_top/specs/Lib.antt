@@ -1,6 +1,5 @@
-pub mod Words
-pub mod Hexadecimal
 pub mod Printing
+pub mod Files
 pub mod Meaning
 pub mod Delivery
 pub mod Answers

@@ -1,56 +1,58 @@
--- What each command means: which files are read in which order, which refusal comes where, and which report.
-use Rattle.std.specs.Prelude.{◌≡◌, ◌⊎◌, ℕ, ◌≤◌, List, length, Option, Result, Ok, Err}
-use Rattle.tie_io.specs.Counts.{Rose}
-use Rattle.tie_io.specs.Reading.{IsFile, IsLonger}
-use Rattle.xt_exec.specs.State.{State, first_state}
+-- What each command means: a report of its files, or the refusal of the first one that is wrong.
+use Rattle.std.specs.Prelude.{◌≡◌, ◌⊎◌, ℕ, List, [], Result, Ok, Err}
+use Rattle.tie_desc.specs.Description.{Description}
+use Rattle.tie_desc.specs.Fetching.{IsImage}
+use Rattle.tie_desc.specs.declared.bundle.Kit.{Kit}
+use Rattle.xt_state.specs.State.{State}
+use Rattle.xt_exec.specs.First.{first_state}
 use Rattle.xt_exec.specs.Run.{Stopped}
+use Rattle.tie_report.specs.Report.{report_text}
+use Rattle.tie_lines.specs.Lines.{check_text}
+use Rattle.tie_words.specs.Words.{Meant, Check, Exec, ExecTie, Accepts, WrongAt}
+use Rattle.tie_top.specs.declared.status.Status.TheVariants.{Done}
 use Rattle.tie_top.specs.declared.refusal.Refusal.{Refusal}
-use Rattle.tie_top.specs.declared.refusal.Refusal.TheVariants.{Usage, ReadFault, TooLong, TextRefused, NoMemory}
-use Rattle.tie_top.specs.declared.hexadecimal.HexRule.{HexRule}
+use Rattle.tie_top.specs.declared.refusal.Refusal.TheVariants.{Usage, NoMemory}
 use Rattle.tie_top.specs.declared.report.Report.{Report}
-use Rattle.tie_top.specs.Hexadecimal.{hex_bytes}
-use Rattle.tie_top.specs.Words.{Meant, Exec, Accepts, WrongAt}
-use Rattle.tie_top.specs.Printing.{report_text, end_status}
-
--- a shelf over a call: what it holds, where it tells it, and its counts of faults before the call and after it
-pub record Shelved : Type 0 where
-  pub holds : List ℕ → Option (List ℕ)
-  pub before : List ℕ → ℕ
-  pub after : List ℕ → ℕ
-
-abbrev pub shelved : {D : Type 0} → (D → List ℕ → Option (List ℕ)) → (D → List ℕ → ℕ) → D → D → Shelved
-shelved holds faults old new = record { holds = holds old; before = faults old; after = faults new }
+use Rattle.tie_top.specs.Printing.{end_status}
+use Rattle.tie_top.specs.Files.{Shelved, IsTie, IsAlone, IsHex, files, FirstWrong}
 
 -- a verdict: the report, or the refusal
 abbrev pub Verdict : Type 0
 Verdict = Result Report Refusal
 
--- The file of this name is read next: its count of faults rose, or it has more than 1,048,576 bytes, or it has these
--- bytes, and go says what follows.
-pub data Reads {A : Type 0} (s : Shelved) (name : List ℕ) (go : List ℕ → Result A Refusal → Type 0) (verdict : Result A Refusal) : Type 0 where
-  ReadFails : verdict ≡ Err (ReadFault name) → Rose (s.before name) (s.after name) → Reads s name go verdict
-  IsTooLong : verdict ≡ Err (TooLong name) → (front : List ℕ) → IsLonger (s.holds name) 1048576 front → Reads s name go verdict
-  HasBytes : (bytes : List ℕ) → length bytes ≤ 1048576 → IsFile (s.holds name) bytes → go bytes verdict → Reads s name go verdict
+-- ---- reports
 
--- The text of a file is hexadecimal text of at most 65,536 bytes, and go says what follows; or it is refused.
-pub data HexThen {A : Type 0} (name text : List ℕ) (go : List ℕ → Result A Refusal → Type 0) (verdict : Result A Refusal) : Type 0 where
-  IsHex : (image : List ℕ) → hex_bytes 65536 text ≡ Ok image → go image verdict → HexThen name text go verdict
-  NoHex : (rule : HexRule) (place : ℕ) → hex_bytes 65536 text ≡ Err (rule, place) → verdict ≡ Err (TextRefused name rule place) → HexThen name text go verdict
+abbrev pub done : List ℕ → Report
+done text = record { status = Done; text = text }
 
--- the report of a processor with this budget that stopped
-abbrev pub reported : ℕ → ℕ → State → Report
-reported budget retired end = record { status = end_status end.ending; text = report_text budget retired end }
+-- the description of no declarations
+abbrev pub bare : Description
+bare = record { states = []; files = []; ranges = []; ops = []; formats = []; ins = []; outs = [] }
 
--- the report of an image in 65,536 bytes of memory, run to its stop with a budget of 1,000,000 retirements
-abbrev pub Reports : List ℕ → Verdict → Type 0
-Reports image verdict = (retired : ℕ) × (end : State) × Stopped 1000000 (first_state 65536 image) retired end × (verdict ≡ Ok (reported 1000000 retired end))
+-- the run of an image with this description stops so, in 65,536 bytes of memory with a budget of 1,000,000 retirements
+abbrev pub Stops : Description → List ℕ → ℕ → State → Type 0
+Stops d image retired end =
+    (kit : Kit) × (kit.desc ≡ d) × IsImage d image kit.image.at × Stopped kit 1000000 (first_state d 65536 image) retired end
 
-abbrev pub ExecMeans : Shelved → List ℕ → Verdict → Type 0
-ExecMeans s hex = Reads s hex (λ text. HexThen hex text Reports)
+abbrev pub reported : Description → ℕ → State → Report
+reported d retired end = record { status = end_status end.ending; text = report_text d 1000000 retired end }
+
+-- the report of the run of an image to its stop
+abbrev pub Reports : Description → List ℕ → Report → Type 0
+Reports d image report = (retired : ℕ) × (end : State) × Stops d image retired end × (report ≡ reported d retired end)
+
+-- the report of a command all of whose files are accepted
+abbrev pub Yields : Shelved → Meant → Report → Type 0
+Yields s (Check tie) report = (d : Description) × IsTie s tie d × (report ≡ done (check_text d))
+Yields s (Exec hex) report = (image : List ℕ) × IsHex s hex image × Reports bare image report
+Yields s (ExecTie hex tie) report = (image : List ℕ) × (d : Description) × IsHex s hex image × IsAlone s tie d × Reports d image report
+
+-- ---- commands
 
 -- what a command means
 abbrev pub CommandMeans : Shelved → Meant → Verdict → Type 0
-CommandMeans s (Exec hex) = ExecMeans s hex
+CommandMeans s command (Ok report) = Yields s command report
+CommandMeans s command (Err refusal) = FirstWrong s (files command) refusal
 
 -- what the words mean
 abbrev pub Means : Shelved → List (List ℕ) → Verdict → Type 0

@@ -32,7 +32,7 @@ fn deliver_report<O: Sink>(report: &Report, out: &mut O, err: &mut O) -> Status
     ensures { Reported (sunk O.written O.faults out.old out.new)
         (sunk O.written O.faults err.old err.new) report.now result }
 {
-    match put_lines(out, report.text.as_bytes()) {
+    match put_lines(out, report.text.as_slice()) {
         Ok(()) => report.status,
         Err(PutFault::Failed) => Status::WriteFault,
         Err(PutFault::NoMemory) => want(err),

@@ -1,9 +1,10 @@
 ghost use Rattle.std.specs.Prelude.{◌≡◌, ◌<◌, IfOk, length, string_bytes};
 ghost use Rattle.tie_top.specs.Printing.{line_of, hex_rule_word};
 
-use crate::hexadecimal::HexRule;
 use crate::refusal::Refusal;
+use hex_text::HexRule;
 use std::alloc::{AllocError, Global};
+use tie_front::{TieRule, rule_name};
 
 /// The line of a refusal, with its LF.
 pub fn line_of(alloc: Global, refusal: &Refusal) -> Result<String, AllocError>
@@ -20,15 +21,28 @@ pub fn line_of(alloc: Global, refusal: &Refusal) -> Result<String, AllocError>
             let name = name.as_str();
             format!(in alloc; "too long: {name}\n")
         }
-        Refusal::TextRefused { name, rule, place } => {
+        Refusal::TieRefused { name, rule, place } => {
+            tie_line(alloc, name.as_str(), *rule, *place)
+        }
+        Refusal::HexRefused { name, rule, place } => {
             hex_line(alloc, name.as_str(), *rule, *place)
         }
         Refusal::NoMemory => String::from_str(alloc, "no memory\n"),
     }
 }
 
+fn tie_line(alloc: Global, name: &str, rule: TieRule, place: u32) -> Result<String, AllocError>
+    ensures { IfOk result (λ line. string_bytes line ≡ line_of (Refusal.TieRefused name.now rule place)) }
+{
+    let rule = rule_name(rule);
+    let mut line = format!(in alloc; "tie refused: {name}: ")?;
+    line.push_str(rule)?;
+    write!(line, " at {place}\n")?;
+    Ok(line)
+}
+
 fn hex_line(alloc: Global, name: &str, rule: HexRule, place: u32) -> Result<String, AllocError>
-    ensures { IfOk result (λ line. string_bytes line ≡ line_of (Refusal.TextRefused name.now rule place)) }
+    ensures { IfOk result (λ line. string_bytes line ≡ line_of (Refusal.HexRefused name.now rule place)) }
 {
     let rule = hex_rule_word(rule);
     let mut line = format!(in alloc; "hex refused: {name}: ")?;

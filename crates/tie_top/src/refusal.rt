@@ -2,11 +2,12 @@ ghost use Rattle.std.specs.Prelude.{◌≡◌};
 ghost use Rattle.tie_top.specs.declared.refusal.Refusal.TheVariants.{NoMemory};
 
 use crate::Status;
-use crate::hexadecimal::HexRule;
 use crate::text::Text;
+use hex_text::HexRule;
 use std::alloc::{AllocError, AllocFailed};
+use tie_front::TieRule;
 
-/// Why there is no report.
+/// Why there is no report. A name is that of a file, as it was given.
 #[derive(Drop)]
 pub enum Refusal {
     Usage {
@@ -18,7 +19,12 @@ pub enum Refusal {
     TooLong {
         name: Text,
     },
-    TextRefused {
+    TieRefused {
+        name: Text,
+        rule: TieRule,
+        place: u32,
+    },
+    HexRefused {
         name: Text,
         rule: HexRule,
         place: u32,
@@ -52,7 +58,12 @@ impl Refusal {
             Refusal::Usage { word: _ } => Status::Usage,
             Refusal::ReadFault { name: _ } => Status::ReadFault,
             Refusal::TooLong { name: _ } => Status::TooLong,
-            Refusal::TextRefused {
+            Refusal::TieRefused {
+                name: _,
+                rule: _,
+                place: _,
+            } => Status::TieRefused,
+            Refusal::HexRefused {
                 name: _,
                 rule: _,
                 place: _,

@@ -1,9 +1,9 @@
 use crate::Status;
-use crate::text::Text;
+use tie_desc::Sequence;
 
 /// What a command writes, and its status where all of it is written.
 #[derive(Drop)]
 pub struct Report {
     pub status: Status,
-    pub text: Text,
+    pub text: Sequence<u8>,
 }

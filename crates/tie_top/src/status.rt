@@ -3,7 +3,7 @@ ghost use Rattle.std.specs.Prelude.{◌≡◌};
 /// How a call ended.
 #[derive(Clone, Copy, Debug, PartialEq, Eq)]
 pub enum Status {
-    /// The report is whole on the output, and nothing below holds.
+    /// The report is whole on the output, and none of the statuses below holds.
     Done,
     /// The words are those of no command.
     Usage,
@@ -11,9 +11,9 @@ pub enum Status {
     ReadFault,
     /// A file has more than 1,048,576 bytes.
     TooLong,
-    /// A TIE text is not lexed, not parsed or breaks a rule. No command gives it yet.
+    /// A TIE text is not lexed, not parsed or breaks a rule.
     TieRefused,
-    /// An assembly text has no image. No command gives it yet.
+    /// A source has no image. No command gives it yet.
     AsmRefused,
     /// A network file is refused. No command gives it yet.
     NetRefused,

@@ -23,6 +23,12 @@ const FIRST_READ: Faults = Faults {
     err: &[],
 };
 
+const SECOND_READ: Faults = Faults {
+    shelf: &[1],
+    out: &[],
+    err: &[],
+};
+
 const SECOND_LINE: Faults = Faults {
     shelf: &[],
     out: &[1],
@@ -35,9 +41,10 @@ const FIRST_REFUSAL: Faults = Faults {
     err: &[0],
 };
 
-// A call with the file `p`, and what it must answer and write.
+// A call with the files `p` and `t`, and what it must answer and write.
 struct Case {
     text: &'static str,
+    tie: &'static str,
     words: &'static [&'static str],
     faults: Faults,
     status: Status,
@@ -51,9 +58,24 @@ const SUM: &str = "22 A0 05 32 AF FF 30 42 80 00 51 00";
 
 const RUN: &[&str] = &["exec", "p"];
 
-const CASES: [Case; 16] = [
+const RUN_WITH: &[&str] = &["exec", "p", "t"];
+
+const CHECK: &[&str] = &["check", "t"];
+
+const ADDING: &str = "22 A0 05 32 AF FF 30 42 06 00 51 00";
+
+const MYADD: &str = "operation MYADD {out AR r, in AR a, in AR b} {} {assign r = a + b;}";
+
+const LATE_USE: &str =
+    "operation MYADD {out AR r, in AR a, in AR b} {} {assign r = a + b;}\nschedule s {MYADD} {use a Mstage; def r Estage;}";
+
+const COUNTER: &str =
+    "state ACC 128 128'hFFFFFFFFFFFFFFFFFFFFFFFFFFFFFFFF\noperation INC {} {inout ACC} {assign ACC = ACC + 128'd1;}";
+
+const CASES: [Case; 24] = [
     Case {
         text: FIVE,
+        tie: "",
         words: RUN,
         faults: NO_FAULTS,
         status: Status::Done,
@@ -62,6 +84,7 @@ const CASES: [Case; 16] = [
     },
     Case {
         text: "32 AF FF 00 51 00",
+        tie: "",
         words: RUN,
         faults: NO_FAULTS,
         status: Status::Done,
@@ -70,6 +93,7 @@ const CASES: [Case; 16] = [
     },
     Case {
         text: SUM,
+        tie: "",
         words: RUN,
         faults: NO_FAULTS,
         status: Status::Done,
@@ -78,6 +102,7 @@ const CASES: [Case; 16] = [
     },
     Case {
         text: "",
+        tie: "",
         words: RUN,
         faults: NO_FAULTS,
         status: Status::Trapped,
@@ -86,6 +111,7 @@ const CASES: [Case; 16] = [
     },
     Case {
         text: FIVE,
+        tie: "",
         words: &["exec"],
         faults: NO_FAULTS,
         status: Status::Usage,
@@ -94,6 +120,7 @@ const CASES: [Case; 16] = [
     },
     Case {
         text: FIVE,
+        tie: "",
         words: &[],
         faults: NO_FAULTS,
         status: Status::Usage,
@@ -102,7 +129,8 @@ const CASES: [Case; 16] = [
     },
     Case {
         text: FIVE,
-        words: &["check", "p"],
+        tie: "",
+        words: &["run", "p"],
         faults: NO_FAULTS,
         status: Status::Usage,
         out: "",
@@ -110,14 +138,16 @@ const CASES: [Case; 16] = [
     },
     Case {
         text: FIVE,
-        words: &["exec", "p", "p"],
+        tie: "",
+        words: &["exec", "p", "t", "q"],
         faults: NO_FAULTS,
         status: Status::Usage,
         out: "",
-        err: "usage: word 2\n",
+        err: "usage: word 3\n",
     },
     Case {
         text: "2",
+        tie: "",
         words: RUN,
         faults: NO_FAULTS,
         status: Status::TextRefused,
@@ -126,6 +156,7 @@ const CASES: [Case; 16] = [
     },
     Case {
         text: "22 G0 0",
+        tie: "",
         words: RUN,
         faults: NO_FAULTS,
         status: Status::TextRefused,
@@ -134,6 +165,7 @@ const CASES: [Case; 16] = [
     },
     Case {
         text: FIVE,
+        tie: "",
         words: &["exec", "q"],
         faults: NO_FAULTS,
         status: Status::ReadFault,
@@ -142,6 +174,7 @@ const CASES: [Case; 16] = [
     },
     Case {
         text: FIVE,
+        tie: "",
         words: RUN,
         faults: FIRST_READ,
         status: Status::ReadFault,
@@ -150,6 +183,7 @@ const CASES: [Case; 16] = [
     },
     Case {
         text: SUM,
+        tie: "",
         words: RUN,
         faults: SECOND_LINE,
         status: Status::WriteFault,
@@ -158,6 +192,7 @@ const CASES: [Case; 16] = [
     },
     Case {
         text: FIVE,
+        tie: "",
         words: &["exec"],
         faults: FIRST_REFUSAL,
         status: Status::WriteFault,
@@ -166,6 +201,7 @@ const CASES: [Case; 16] = [
     },
     Case {
         text: "2",
+        tie: "",
         words: RUN,
         faults: FIRST_REFUSAL,
         status: Status::WriteFault,
@@ -174,24 +210,99 @@ const CASES: [Case; 16] = [
     },
     Case {
         text: FIVE,
+        tie: "",
         words: &["exec", "q"],
         faults: FIRST_REFUSAL,
         status: Status::WriteFault,
         out: "",
         err: "",
     },
+    Case {
+        text: "",
+        tie: "",
+        words: CHECK,
+        faults: NO_FAULTS,
+        status: Status::Done,
+        out: "accepted\n",
+        err: "",
+    },
+    Case {
+        text: "",
+        tie: MYADD,
+        words: CHECK,
+        faults: NO_FAULTS,
+        status: Status::Done,
+        out: "accepted\noperation MYADD 060000\n",
+        err: "",
+    },
+    Case {
+        text: "",
+        tie: LATE_USE,
+        words: CHECK,
+        faults: NO_FAULTS,
+        status: Status::TieRefused,
+        out: "",
+        err: "tie refused: t: ScheduleOrder at 108\n",
+    },
+    Case {
+        text: ADDING,
+        tie: MYADD,
+        words: RUN_WITH,
+        faults: NO_FAULTS,
+        status: Status::Done,
+        out: "core main retired 4 halted pc 0000000C\n  sar 0\n  a2 00000005\n  a3 FFFFFFFF\n  a4 00000004\nend halted\n",
+        err: "",
+    },
+    Case {
+        text: "00 00 06 00 51 00",
+        tie: COUNTER,
+        words: RUN_WITH,
+        faults: NO_FAULTS,
+        status: Status::Done,
+        out: "core main retired 2 halted pc 00000006\n  sar 0\n  ACC 00000000000000000000000000000000\nend halted\n",
+        err: "",
+    },
+    Case {
+        text: FIVE,
+        tie: "state S 8 queue Q 8 in",
+        words: RUN_WITH,
+        faults: NO_FAULTS,
+        status: Status::TieRefused,
+        out: "",
+        err: "tie refused: t: Parse at 10\n",
+    },
+    Case {
+        text: "2",
+        tie: "state",
+        words: RUN_WITH,
+        faults: NO_FAULTS,
+        status: Status::TextRefused,
+        out: "",
+        err: "hex refused: p: OddHex at 1\n",
+    },
+    Case {
+        text: ADDING,
+        tie: MYADD,
+        words: RUN_WITH,
+        faults: SECOND_READ,
+        status: Status::ReadFault,
+        out: "",
+        err: "read fault: t\n",
+    },
 ];
 
-// Calls with one file, and answers the status and what stands on the two sinks.
+// Calls with the files `p` and `t`, and answers the status and what stands on the two sinks.
 fn call(
     rt: &(impl Threads + AllocGlobal),
     file: &[u8],
+    tie: &str,
     words: &[&str],
     faults: &Faults,
 ) -> Result<(Status, MemSink, MemSink), Fail> {
     let alloc = rt.alloc();
     let mut shelf = MemShelf::new(alloc, faults.shelf.to_vec(alloc)?);
     shelf.add("p", file).ok().ok_or("no memory")?;
+    shelf.add("t", tie.as_bytes()).ok().ok_or("no memory")?;
     let mut out = MemSink::new(alloc, faults.out.to_vec(alloc)?);
     let mut err = MemSink::new(alloc, faults.err.to_vec(alloc)?);
     let words = owned(alloc, words)?;
@@ -210,7 +321,13 @@ fn owned(alloc: Global, words: &[&str]) -> Result<Vec<String>, Fail> {
 #[test]
 fn cases(rt: HostRuntime) -> Result<(), Fail> {
     for case in &CASES {
-        let (status, out, err) = call(&rt, case.text.as_bytes(), case.words, &case.faults)?;
+        let (status, out, err) = call(
+            &rt,
+            case.text.as_bytes(),
+            case.tie,
+            case.words,
+            &case.faults,
+        )?;
         assert_eq!(rt; status, case.status);
         assert_eq!(rt; out.written(), case.out.as_bytes());
         assert_eq!(rt; err.written(), case.err.as_bytes());
@@ -219,7 +336,7 @@ fn cases(rt: HostRuntime) -> Result<(), Fail> {
 }
 
 // Images, and the status and the report of their runs, worked by hand.
-const STOPS: [(&str, Status, &str); 7] = [
+const STOPS: [(&str, Status, &str); 6] = [
     // S32I a2, a0, 0: a store to the text
     (
         "22 60 00",
@@ -237,12 +354,6 @@ const STOPS: [(&str, Status, &str); 7] = [
         "12 AF FC 22 21 00",
         Status::Trapped,
         "core main retired 1 trapped BadAddress pc 00000003\n  sar 0\n  a1 FFFFFFFC\nend trapped\n",
-    ),
-    // a jump to itself
-    (
-        "06 FF FF",
-        Status::Unfinished,
-        "core main retired 1000000 spent budget 1000000 pc 00000000\n  sar 0\nend unfinished\n",
     ),
     // SSAI 5; a jump to itself
     (
@@ -267,7 +378,7 @@ const STOPS: [(&str, Status, &str); 7] = [
 #[test]
 fn stops(rt: HostRuntime) -> Result<(), Fail> {
     for (text, status, report) in STOPS {
-        let (found, out, err) = call(&rt, text.as_bytes(), RUN, &NO_FAULTS)?;
+        let (found, out, err) = call(&rt, text.as_bytes(), "", RUN, &NO_FAULTS)?;
         assert_eq!(rt; found, status);
         assert_eq!(rt; out.written(), report.as_bytes());
         assert_eq!(rt; err.written(), b"".as_slice());
@@ -283,11 +394,11 @@ fn filled(alloc: Global, byte: u8, count: usize) -> Result<Vec<u8>, Fail> {
 #[test]
 fn long_file(rt: HostRuntime) -> Result<(), Fail> {
     let file = filled(rt.alloc(), b' ', 1_048_577)?;
-    let (status, out, err) = call(&rt, &file, RUN, &NO_FAULTS)?;
+    let (status, out, err) = call(&rt, &file, "", RUN, &NO_FAULTS)?;
     assert_eq!(rt; status, Status::TooLong);
     assert_eq!(rt; out.written(), b"".as_slice());
     assert_eq!(rt; err.written(), b"too long: p\n".as_slice());
-    let (status, out, _) = call(&rt, &file, RUN, &FIRST_REFUSAL)?;
+    let (status, out, _) = call(&rt, &file, "", RUN, &FIRST_REFUSAL)?;
     assert_eq!(rt; status, Status::WriteFault);
     assert_eq!(rt; out.written(), b"".as_slice());
     Ok(())
@@ -296,7 +407,7 @@ fn long_file(rt: HostRuntime) -> Result<(), Fail> {
 #[test]
 fn longest_file(rt: HostRuntime) -> Result<(), Fail> {
     let file = filled(rt.alloc(), b' ', 1_048_576)?;
-    let (status, _, err) = call(&rt, &file, RUN, &NO_FAULTS)?;
+    let (status, _, err) = call(&rt, &file, "", RUN, &NO_FAULTS)?;
     assert_eq!(rt; status, Status::Trapped);
     assert_eq!(rt; err.written(), b"".as_slice());
     Ok(())
@@ -305,7 +416,7 @@ fn longest_file(rt: HostRuntime) -> Result<(), Fail> {
 #[test]
 fn long_image(rt: HostRuntime) -> Result<(), Fail> {
     let text = filled(rt.alloc(), b'0', 131_074)?;
-    let (status, _, err) = call(&rt, &text, RUN, &NO_FAULTS)?;
+    let (status, _, err) = call(&rt, &text, "", RUN, &NO_FAULTS)?;
     assert_eq!(rt; status, Status::TextRefused);
     assert_eq!(rt;
         err.written(),

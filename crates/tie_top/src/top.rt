@@ -1,5 +1,5 @@
 ghost use Rattle.tie_top.specs.Answers.{called, IsRight, IsGiven, IsComplete};
-ghost use Rattle.tie_top.specs.Answers.{UsageIsRight, ReadFaultIsRight, TooLongIsRight, TextRefusedIsRight, DoneIsRight, TrappedIsRight, UnfinishedIsRight, WriteFaultIsRight};
+ghost use Rattle.tie_top.specs.Answers.{UsageIsRight, ReadFaultIsRight, TooLongIsRight, TieRefusedIsRight, TextRefusedIsRight, DoneIsRight, TrappedIsRight, UnfinishedIsRight, WriteFaultIsRight};
 
 use crate::delivery::deliver;
 use crate::judgement::judge;
@@ -32,6 +32,8 @@ pub fn tie_top<R: Threads, S: Shelf, O: Sink, G: Gate>(
         words.now shelf.old shelf.new out.old out.new err.old err.new result) }
     ensures too_long { TooLongIsRight (called S.holds S.faults O.written O.faults
         words.now shelf.old shelf.new out.old out.new err.old err.new result) }
+    ensures tie_refused { TieRefusedIsRight (called S.holds S.faults O.written O.faults
+        words.now shelf.old shelf.new out.old out.new err.old err.new result) }
     ensures text_refused { TextRefusedIsRight (called S.holds S.faults O.written O.faults
         words.now shelf.old shelf.new out.old out.new err.old err.new result) }
     ensures done { DoneIsRight (called S.holds S.faults O.written O.faults
@@ -44,7 +46,7 @@ pub fn tie_top<R: Threads, S: Shelf, O: Sink, G: Gate>(
         words.now shelf.old shelf.new out.old out.new err.old err.new result) }
     ensures given { IsGiven result }
 
-    // A shelf that tells the file, no fault and valid input give the one report whole, or memory ran out.
+    // A shelf that tells the files, files that are accepted and no fault give the command's report whole, or memory ran out.
     ensures complete { IsComplete (called S.holds S.faults O.written O.faults
         words.now shelf.old shelf.new out.old out.new err.old err.new result) }
 {

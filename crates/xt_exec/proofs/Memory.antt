@@ -3,7 +3,7 @@ use Rattle.std.proofs.Common.{◌≡◌, ℕ, suc, ◌+◌, ◌*◌, ◌/◌, �
 use Rattle.std.proofs.lemmas.List.Edits.{sets, sets-eq}
 use Rattle.std.proofs.Math.Seq.{length-sets}
 use Rattle.std.proofs.lemmas.Grind.{common_steps}
-use Rattle.xt_exec.specs.Step.{little_endian, low_bytes, overwritten}
+use Rattle.xt_exec.specs.Memory.{little_endian, low_bytes, overwritten}
 
 -- one byte
 pub overwritten_one : (m : List ℕ) (a x : ℕ) → a < length m → slice_set m a x ≡ overwritten m a (x ∷ [])

@@ -1,108 +1,61 @@
--- What one bundle does. Until more is built a bundle is one core instruction of three bytes.
-use Rattle.std.specs.Prelude.{◌≡◌, ◌≢◌, ℕ, ◌+◌, ◌-◌, ◌*◌, ◌/◌, ◌%◌, ◌^◌, ◌≤◌, zero, suc, Bool, true, false, ◌==◌, nat_lt, not, if◌then◌else◌, List, [], ◌∷◌, ◌++◌, length, take, drop, slice_set, Option, Some, None}
-use Rattle.xt_isa.specs.declared.instruction.Inst.{Inst}
-use Rattle.xt_isa.specs.declared.instruction.Inst.TheVariants.{Simcall}
-use Rattle.xt_isa.specs.Numbers.{signed_value}
-use Rattle.xt_isa.specs.Table.{Fits, Spells}
-use Rattle.xt_exec.specs.declared.ending.Ending.TheVariants.{Halted, Trapped}
-use Rattle.xt_exec.specs.declared.ending.Trap.{Trap}
-use Rattle.xt_exec.specs.declared.ending.Trap.TheVariants.{Illegal, Unaligned, BadAddress, StoreText}
-use Rattle.xt_exec.specs.declared.step.CoreStep.{CoreStep}
-use Rattle.xt_exec.specs.declared.step.CoreStep.TheVariants as steps
-use Rattle.xt_exec.specs.State.{State, bytes_ahead}
-use Rattle.xt_exec.specs.declared.action.Access.{Access}
-use Rattle.xt_exec.specs.declared.action.Access.TheVariants.{Nothing, Load, Store}
-use Rattle.xt_exec.specs.declared.action.Action.{Action}
-use Rattle.xt_exec.specs.Action.{action, word32}
+-- One step of a running processor.
+use Rattle.std.specs.Prelude.{◌≡◌, ℕ, true, false, List, Option, Some, None, option_and_then, slice_get}
+use Rattle.xt_core.specs.declared.ending.Ending.TheVariants.{Trapped}
+use Rattle.xt_core.specs.declared.ending.Trap.{Trap}
+use Rattle.xt_core.specs.declared.ending.Trap.TheVariants.{Illegal}
+use Rattle.xt_core.specs.Action.{action}
+use Rattle.tie_desc.specs.Description.{Description}
+use Rattle.tie_desc.specs.declared.bundle.Bundle.{Bundle}
+use Rattle.tie_desc.specs.declared.bundle.Bundle.TheVariants as bundle
+use Rattle.tie_desc.specs.declared.bundle.Fetched.{Fetched}
+use Rattle.tie_desc.specs.declared.bundle.Kit.{Kit}
+use Rattle.xt_state.specs.State.{State}
+use Rattle.xt_exec.specs.declared.answer.Step.{Step}
+use Rattle.xt_exec.specs.declared.answer.Step.TheVariants as steps
+use Rattle.xt_exec.specs.Memory.{access_trap}
+use Rattle.xt_exec.specs.Places.{core_view}
+use Rattle.xt_exec.specs.declared.queues.Needs.{Needs}
+use Rattle.xt_exec.specs.Queues.{HasItems, IsFirstLacking, all_sent, item_of, mask, pops, pushes}
+use Rattle.xt_exec.specs.Effect.{effect_on, next_state}
 
--- the bytes ahead begin with the instruction
-pub record IsAt (s : State) (inst : Inst) : Type 0 where
-  pub fits : Fits inst
-  pub enough : 3 ≤ length (bytes_ahead s)
-  pub spelled : Spells inst (take 3 (bytes_ahead s))
+-- the bundle at the pc: what the image has there
+abbrev pub bundle_at : Kit → State → Option Fetched
+bundle_at kit s = option_and_then (λ o. o) (slice_get kit.image.at s.pc)
 
--- ---- memory
+-- the trap of a bundle: that of its access; operations have none
+abbrev pub bundle_trap : State → Bundle → Option Trap
+bundle_trap s (bundle.Core i) = access_trap s (action i (core_view s)).access
+bundle_trap s (bundle.One p) = None
+bundle_trap s (bundle.Wide f ps) = None
 
--- bytes as a number, the lowest first
-abbrev pub little_endian : List ℕ → ℕ
-little_endian [] = 0
-little_endian (b ∷ bs) = b + 256 * little_endian bs
+abbrev pub trapped : State → Trap → State
+trapped s trap = record s { ending = Trapped trap }
 
--- the low bytes of a number, the lowest first
-unfoldable pub low_bytes : ℕ → ℕ → List ℕ
-low_bytes zero value = []
-low_bytes (suc n) value = value % 256 ∷ low_bytes n (value / 256)
+-- the step of a bundle of so many bytes, by cases on its answer, where the input queues have these heads. At a trap
+-- nothing but the ending changes; where an item is lacking nothing does. A retirement pushes what it writes to each
+-- output queue.
+abbrev pub Acts : Description → State → List (Option ℕ) → Bundle → ℕ → Step → State → Type 0
+Acts d s heads b length (steps.Trapped trap) t = (bundle_trap s b ≡ Some trap) × (t ≡ trapped s trap)
+Acts d s heads b length (steps.NeedsItem q) t = (bundle_trap s b ≡ None) × IsFirstLacking d b heads q × (t ≡ s)
+Acts d s heads b length (steps.Stepped pushed) t =
+    (bundle_trap s b ≡ None) × HasItems d b heads × ((effect_on d b s (item_of d heads)).halts ≡ false)
+    × (pushed ≡ all_sent (effect_on d b s (item_of d heads)).at) × (t ≡ next_state d b length s (item_of d heads))
+Acts d s heads b length steps.Halted t =
+    (bundle_trap s b ≡ None) × HasItems d b heads × ((effect_on d b s (item_of d heads)).halts ≡ true)
+    × (t ≡ next_state d b length s (item_of d heads))
 
--- so many bytes from an address on
-abbrev pub bytes_at : State → ℕ → ℕ → List ℕ
-bytes_at s address bytes = take bytes (drop address s.memory)
+-- the step of what stands at the pc; where no bundle does, it is illegal
+abbrev pub FetchedStep : Description → State → List (Option ℕ) → Option Fetched → Step → State → Type 0
+FetchedStep d s heads None answer t = (answer ≡ steps.Trapped Illegal) × (t ≡ trapped s Illegal)
+FetchedStep d s heads (Some f) answer t = Acts d s heads f.bundle f.length answer t
 
--- a loaded number, filled with its sign or with zeros
-abbrev pub filled : ℕ → Bool → ℕ → ℕ
-filled bytes signed value = if signed then word32 (signed_value (2 ^ (8 * bytes - 1)) value) else value
+abbrev pub BundleStep : Kit → State → List (Option ℕ) → Step → State → Type 0
+BundleStep kit s heads answer t = FetchedStep kit.desc s heads (bundle_at kit s) answer t
 
-abbrev pub loaded_value : State → ℕ → ℕ → Bool → ℕ
-loaded_value s address bytes signed = filled bytes signed (little_endian (bytes_at s address bytes))
+-- the queues that the bundle at the pc uses. A bundle that traps is a core instruction, which uses none.
+abbrev pub fetched_needs : Description → Option Fetched → Needs
+fetched_needs d None = record { pops = 0; pushes = 0 }
+fetched_needs d (Some f) = record { pops = mask (pops d f.bundle); pushes = mask (pushes d f.bundle) }
 
--- the memory with bytes written from an address on
-abbrev pub overwritten : List ℕ → ℕ → List ℕ → List ℕ
-overwritten memory address bytes = take address memory ++ bytes ++ drop (address + length bytes) memory
-
--- ---- traps of an access, the first that holds
-
-abbrev pub place_trap : State → ℕ → ℕ → Bool → Option Trap
-place_trap s address bytes writes =
-    if not (address % bytes == 0) then Some Unaligned else (
-    if nat_lt (length s.memory) (address + bytes) then Some BadAddress else (
-    if writes then (if nat_lt address s.text_end then Some StoreText else None) else None))
-
-abbrev pub access_trap : State → Access → Option Trap
-access_trap s Nothing = None
-access_trap s (Load address bytes signed to) = place_trap s address bytes false
-access_trap s (Store address bytes value) = place_trap s address bytes true
-
--- ---- the state after an action that doesn't trap
-
-abbrev pub with_write : Option (ℕ × ℕ) → State → State
-with_write None s = s
-with_write (Some w) s = record s { registers = slice_set s.registers w.0 w.1 }
-
-abbrev pub with_sar : Option ℕ → State → State
-with_sar None s = s
-with_sar (Some amount) s = record s { sar = amount }
-
--- a load reads the memory of the state s before, a store writes it
-abbrev pub with_access : State → Access → State → State
-with_access old Nothing s = s
-with_access old (Load address bytes signed to) s = with_write (Some (to, loaded_value old address bytes signed)) s
-with_access old (Store address bytes value) s = record s { memory = overwritten s.memory address (low_bytes bytes value) }
-
--- the pc of a taken branch or jump, or the one behind the instruction
-abbrev pub next_pc : State → Option ℕ → ℕ
-next_pc s None = s.pc + 3
-next_pc s (Some target) = target
-
-abbrev pub with_halt : Bool → State → State
-with_halt true s = record s { ending = Halted }
-with_halt false s = s
-
--- all parts read the old state, then they write
-abbrev pub after : Action → State → State
-after a s = with_halt a.halts (with_access s a.access (with_sar a.sar (with_write a.write (record s { pc = next_pc s a.target }))))
-
-abbrev pub effect : Inst → State → State
-effect inst s = after (action inst s) s
-
--- ---- one step from a running state
-
--- the first trap that holds: no instruction stands ahead, or that of its access
-abbrev pub Traps : State → Trap → Type 0
-Traps s Illegal = (inst : Inst) → ¬ IsAt s inst
-Traps s trap = (inst : Inst) × IsAt s inst × (access_trap s (action inst s).access ≡ Some trap)
-
--- at a trap nothing but the ending changes
-abbrev pub BundleStep : State → CoreStep → State → Type 0
-BundleStep s steps.Stepped t =
-    (inst : Inst) × IsAt s inst × (inst ≢ Simcall) × (access_trap s (action inst s).access ≡ None) × (t ≡ effect inst s)
-BundleStep s steps.Halted t = IsAt s Simcall × (t ≡ effect Simcall s)
-BundleStep s (steps.Trapped trap) t = Traps s trap × (t ≡ record s { ending = Trapped trap })
+abbrev pub needed : Kit → State → Needs
+needed kit s = fetched_needs kit.desc (bundle_at kit s)

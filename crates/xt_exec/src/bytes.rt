@@ -1,9 +1,13 @@
+//! Bytes of memory as numbers.
+
 ghost use Rattle.std.specs.Prelude.{◌≡◌, ◌+◌, ◌<◌, ◌≤◌, ◌*◌, ◌^◌, drop, length, take};
-ghost use Rattle.xt_exec.specs.Range.{IsSize};
-ghost use Rattle.xt_exec.specs.Step.{filled, little_endian, low_bytes, overwritten};
+ghost use Rattle.xt_core.specs.Range.{IsSize};
+ghost use Rattle.xt_exec.specs.Memory.{filled, little_endian, loaded_value, low_bytes, overwritten};
+
+use xt_state::Arch;
 
 // A number of so many bytes, filled with its sign or with zeros.
-pub fn filled(bytes: u8, signed: bool, value: u32) -> u32
+fn filled(bytes: u8, signed: bool, value: u32) -> u32
     requires size { IsSize bytes }
     requires small { value < 2 ^ (8 * bytes) }
     ensures { result ≡ filled bytes signed value }
@@ -16,7 +20,7 @@ pub fn filled(bytes: u8, signed: bool, value: u32) -> u32
 }
 
 // Two bytes of a memory as a number, the lowest first.
-pub fn half_at(memory: &[u8], a: usize) -> u32
+fn half_at(memory: &[u8], a: usize) -> u32
     requires { a + 2 ≤ length memory.now }
     ensures value { result ≡ little_endian (take 2 (drop a memory.now)) }
     ensures small { result < 2 ^ 16 }
@@ -26,31 +30,61 @@ pub fn half_at(memory: &[u8], a: usize) -> u32
 
 // Four bytes of a memory as a number, the lowest first.
 #[tactic(auto, using(crate::proofs::Memory::little_endian_four_at))]
-pub fn word_at(memory: &[u8], a: usize) -> u32
+fn word_at(memory: &[u8], a: usize) -> u32
     requires { a + 4 ≤ length memory.now }
     ensures { result ≡ little_endian (take 4 (drop a memory.now)) }
 {
     half_at(memory, a) + 0x1_0000 * half_at(memory, a + 2)
 }
 
-// The low two bytes of a number go into a memory, the lowest first.
-#[tactic(auto, using(crate::proofs::Memory::overwritten_two), unfolding(crate::specs::Step::low_bytes))]
-pub fn put_half(memory: &mut [u8], a: usize, value: u32)
-    requires { a + 2 ≤ length memory.old }
-    ensures value { memory.new ≡ overwritten memory.old a (low_bytes 2 value) }
-    ensures len { length memory.new ≡ length memory.old }
+// So many bytes from an address on as a number, the lowest first, filled with its sign or with zeros.
+pub fn load(arch: &Arch, address: u32, bytes: u8, signed: bool) -> u32
+    requires size { IsSize bytes }
+    requires within { address + bytes ≤ length arch.now.memory }
+    ensures { result ≡ loaded_value arch.now address bytes signed }
 {
-    memory[a] = (value % 256) as u8;
-    memory[a + 1] = (value / 256 % 256) as u8;
+    let memory = arch.memory();
+    let a = address as usize;
+    match bytes {
+        1 => filled(1, signed, u32::from(memory[a])),
+        2 => filled(2, signed, half_at(memory, a)),
+        _ => filled(4, signed, word_at(memory, a)),
+    }
 }
 
-// The low four bytes of a number go into a memory, the lowest first.
-#[tactic(auto, using(crate::proofs::Memory::overwritten_four))]
-pub fn put_word(memory: &mut [u8], a: usize, value: u32)
-    requires { a + 4 ≤ length memory.old }
-    ensures value { memory.new ≡ overwritten memory.old a (low_bytes 4 value) }
-    ensures len { length memory.new ≡ length memory.old }
+// The low two bytes of a number go into memory, the lowest first.
+#[tactic(auto, using(crate::proofs::Memory::overwritten_two), unfolding(crate::specs::Memory::low_bytes))]
+fn put_half(arch: &mut Arch, a: u32, value: u32)
+    requires small { a + 2 ≤ 2 ^ 31 }
+    requires within { a + 2 ≤ length arch.old.memory }
+    ensures { arch.new ≡ record arch.old { memory = overwritten arch.old.memory a (low_bytes 2 value) } }
 {
-    put_half(memory, a, value % 0x1_0000);
-    put_half(memory, a + 2, value / 0x1_0000);
+    arch.set_byte(a, (value % 256) as u8);
+    arch.set_byte(a + 1, (value / 256 % 256) as u8);
+}
+
+// The low four bytes of a number go into memory, the lowest first.
+#[tactic(auto, using(crate::proofs::Memory::overwritten_four))]
+fn put_word(arch: &mut Arch, a: u32, value: u32)
+    requires small { a + 4 ≤ 2 ^ 31 }
+    requires within { a + 4 ≤ length arch.old.memory }
+    ensures { arch.new ≡ record arch.old { memory = overwritten arch.old.memory a (low_bytes 4 value) } }
+{
+    put_half(arch, a, value % 0x1_0000);
+    put_half(arch, a + 2, value / 0x1_0000);
+}
+
+// The low bytes of a value go into memory from an address on, the lowest first.
+#[tactic(auto, using(crate::proofs::Memory::overwritten_one), unfolding(crate::specs::Memory::low_bytes))]
+pub fn store(arch: &mut Arch, address: u32, bytes: u8, value: u32)
+    requires size { IsSize bytes }
+    requires small { address + bytes ≤ 2 ^ 31 }
+    requires within { address + bytes ≤ length arch.old.memory }
+    ensures { arch.new ≡ record arch.old { memory = overwritten arch.old.memory address (low_bytes bytes value) } }
+{
+    match bytes {
+        1 => arch.set_byte(address, (value % 256) as u8),
+        2 => put_half(arch, address, value),
+        _ => put_word(arch, address, value),
+    }
 }

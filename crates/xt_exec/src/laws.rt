@@ -1,15 +1,17 @@
+//! Laws of steps and runs.
+
 ghost use Rattle.std.specs.Prelude.{◌≡◌};
 ghost use Rattle.xt_exec.specs.Run.{Stopped};
 ghost use Rattle.xt_exec.specs.Step.{BundleStep};
 
 /// A state has one step: one answer and one next state.
 pub fn one_step()
-    ensures { (s : _) (answer other : _) (t u : _)
-        → BundleStep s answer t → BundleStep s other u → (answer ≡ other) × (t ≡ u) }
+    ensures { (kit s heads answer other t u : _)
+        → BundleStep kit s heads answer t → BundleStep kit s heads other u → (answer ≡ other) × (t ≡ u) }
 {}
 
 /// A run has one stop: one count of retirements and one state.
 pub fn one_stop()
-    ensures { (budget : _) (s : _) (k j : _) (t u : _)
-        → Stopped budget s k t → Stopped budget s j u → (k ≡ j) × (t ≡ u) }
+    ensures { (kit budget s k j t u : _)
+        → Stopped kit budget s k t → Stopped kit budget s j u → (k ≡ j) × (t ≡ u) }
 {}

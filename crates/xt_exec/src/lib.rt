@@ -1,21 +1,26 @@
-//! The interpreter: a processor's state, one step of it, and the run to its stop.
+//! The interpreter: one step of a processor, the run to its stop, and its first state.
+//!
+//! What a step does stands in `specs/Step.antt`, by cases on its answer.
 #![tactic(auto)]
 
-mod action;
-mod arch;
+mod answer;
 mod bytes;
 mod effects;
-mod ending;
+mod gathered;
 mod laws;
-mod numbers;
+mod places;
+mod queues;
+mod reach;
 mod running;
-mod step;
-
-pub use arch::{Arch, NoMemory};
-pub use ending::{Ending, Trap};
-pub use laws::{one_step, one_stop};
-pub use running::run;
-pub use step::{CoreStep, step_core};
-
+mod starting;
+mod stepping;
 #[cfg(test)]
 mod tests;
+
+pub use answer::Step;
+pub use laws::{one_step, one_stop};
+pub use queues::Needs;
+pub use running::run;
+pub use starting::start;
+pub use stepping::{needs, step};
+pub use xt_state::{Arch, Ending, NoMemory, Trap};

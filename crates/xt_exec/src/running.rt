@@ -1,19 +1,30 @@
+//! The run of a processor alone.
+
 ghost use Rattle.std.specs.Prelude.{◌≡◌};
-ghost use Rattle.xt_exec.specs.declared.ending.Ending.TheVariants.{Running};
-ghost use Rattle.xt_exec.specs.Run.{Stopped};
+ghost use Rattle.xt_core.specs.declared.ending.Ending.TheVariants.{Running};
+ghost use Rattle.xt_exec.specs.Made.{IsFor};
+ghost use Rattle.xt_exec.specs.Run.{HasNoQueues, Stopped};
 
-use crate::{Arch, CoreStep, step_core};
+use crate::answer::Step;
+use crate::stepping::step;
+use tie_desc::Kit;
+use xt_state::Arch;
 
-/// Runs a processor until it halts, traps, or has as many retirements as the budget, and answers its retirements.
-pub fn run(arch: &mut Arch, budget: u32) -> u32
-    requires { arch.old.ending ≡ Running }
-    ensures { Stopped budget arch.old result arch.new }
+/// Runs a processor without queues until it halts, traps, or has as many retirements as the budget, and answers its
+/// retirements. A step takes constant time.
+pub fn run(kit: &Kit, arch: &mut Arch, budget: u64) -> u64
+    requires made { IsFor kit.now arch.old }
+    requires running { arch.old.ending ≡ Running }
+    requires alone { HasNoQueues kit.now.desc }
+    ensures stop { Stopped kit.now budget arch.old result arch.new }
+    ensures made { IsFor kit.now arch.new }
 {
     for retired in 0..budget {
-        match step_core(arch) {
-            CoreStep::Stepped => {}
-            CoreStep::Halted => return retired + 1,
-            CoreStep::Trapped(_) => return retired,
+        match step(kit, arch, &[None; 8]) {
+            Step::Stepped { .. } => {}
+            Step::Halted => return retired + 1,
+            Step::Trapped(_) => return retired,
+            Step::NeedsItem(_) => unreachable!(),
         }
     }
     budget

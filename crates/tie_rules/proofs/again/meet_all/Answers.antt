@@ -1,5 +1,4 @@
-use Rattle.std.proofs.Common.{ℕ, Bool, ◌||◌, List, take, ap, ◌∙◌}
-use Rattle.std.specs.Str.{bytes_eq}
+use Rattle.std.proofs.Common.{Bool, ◌||◌, take, ap, ◌∙◌}
 use Rattle.tie_mean.specs.Kept.{met}
 use Rattle.tie_mean.specs.Names.{is_named}
 use Rattle.tie_rules.specs.Names.{listed}

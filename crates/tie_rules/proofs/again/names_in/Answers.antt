@@ -1,4 +1,4 @@
-use Rattle.std.proofs.Common.{ℕ, Bool, ◌||◌, Option, ap, ◌∙◌}
+use Rattle.std.proofs.Common.{Bool, ◌||◌, Option, ap, ◌∙◌}
 use Rattle.tie_grammar.specs.declared.symbol.Leaf.{Leaf}
 use Rattle.tie_mean.specs.Kept.{met}
 use Rattle.tie_rules.specs.Names.{names}

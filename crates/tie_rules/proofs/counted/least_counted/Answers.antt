@@ -1,4 +1,4 @@
-use Rattle.std.proofs.Common.{◌≡◌, ℕ, ◌+◌, Bool, if◌then◌else◌, Option, ap, ◌∙◌, take, drop}
+use Rattle.std.proofs.Common.{◌≡◌, ℕ, ◌+◌, if◌then◌else◌, Option, ap, ◌∙◌, take, drop}
 use Rattle.std.specs.List.{count_by}
 use mathlib.Core.Path.{fun_ext}
 use Rattle.tie_rules.specs.Least.{earlier, least, behind_from}

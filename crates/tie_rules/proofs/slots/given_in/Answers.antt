@@ -1,4 +1,4 @@
-use Rattle.std.proofs.Common.{ℕ, List, ap, ◌∙◌}
+use Rattle.std.proofs.Common.{List, ap, ◌∙◌}
 use Rattle.std.specs.List.{list_any}
 use Rattle.tie_grammar.specs.declared.tree.Decl.{Decl}
 use Rattle.tie_rules.specs.Names.{has}

@@ -1,4 +1,4 @@
-use Rattle.std.proofs.Common.{◌≡◌, ap, not, ◌∙◌, Bool, List}
+use Rattle.std.proofs.Common.{ap, not, ◌∙◌, List}
 use Rattle.std.specs.Borrow.{Bor}
 use Rattle.std.specs.List.{list_any}
 use Rattle.tie_grammar.specs.declared.tree.Decl.{Decl}

@@ -1,5 +1,5 @@
 use Rattle.std.proofs.Common.{map, string_bytes}
-use Rattle.tie_top.proofs.Commands.{accepted, refused}
+use Rattle.tie_top.proofs.CommandSteps.{accepted, refused}
 use Rattle.tie_top.proofs.judgement.judge.Goals as goal
 
 pub returns-in-Ok : goal.returns-in-Ok

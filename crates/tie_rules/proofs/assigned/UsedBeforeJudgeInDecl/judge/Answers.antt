@@ -1,8 +1,6 @@
-use Rattle.std.proofs.Common.{List, ap, ◌∙◌}
+use Rattle.std.proofs.Common.{ap, ◌∙◌}
 use Rattle.tie_grammar.specs.declared.tree.Decl.{Decl}
-use Rattle.tie_grammar.specs.declared.tree.Item.{Item}
 use Rattle.tie_rules.specs.Least.{behind}
-use Rattle.tie_rules.specs.Names.{body}
 use Rattle.tie_rules.specs.Bodies.{used_before_item, used_before_at}
 use Rattle.tie_rules.specs.NameSets.{at_met, set_name, early_item, waits}
 use Rattle.tie_rules.proofs.NamedItems.{same_place, used_early}

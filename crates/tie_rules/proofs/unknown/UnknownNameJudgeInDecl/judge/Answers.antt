@@ -1,4 +1,4 @@
-use Rattle.std.proofs.Common.{ℕ, List, ◌++◌, Option, ap, ◌∙◌}
+use Rattle.std.proofs.Common.{ℕ, ◌++◌, Option, ap, ◌∙◌}
 use Rattle.std.specs.List.{flat_map}
 use Rattle.tie_grammar.specs.declared.tree.Decl.{Decl}
 use Rattle.tie_rules.specs.Least.{earlier, least}

@@ -1,0 +1,5 @@
+mod DigitSteps
+mod Scanning
+pub mod Single
+mod Turns
+mod Words

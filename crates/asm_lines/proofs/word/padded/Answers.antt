@@ -1,0 +1,6 @@
+use Rattle.std.proofs.Common.{length, ap, ◌++◌}
+use Rattle.std.proofs.lemmas.List.{drop-replicate}
+use Rattle.asm_lines.proofs.word.padded.Goals as goal
+
+pub returns : goal.returns
+returns c = rw c.copy_from_slice.ensures.after (ap (λ back. c.args.bytes.now ++ back) (drop-replicate (length c.args.bytes.now) 32 0))

@@ -1,0 +1,10 @@
+//! What the commands without a processor print.
+//!
+//! `specs/Lines.antt` has each text as one list of bytes.
+#![tactic(auto)]
+
+#[cfg(test)]
+mod tests;
+mod text;
+
+pub use text::{check_text, image_text};

@@ -1,5 +1,0 @@
-use Rattle.tie_top.proofs.Digits.{digits_small}
-use Rattle.tie_top.proofs.hexadecimal.read_hex.Goals as goal
-
-pub paired-requires : goal.paired-requires
-paired-requires c = λ k. rw (c.deref.ensures.value, c.in-Ok.ensures) (digits_small c.args.text.now k)

@@ -1,0 +1,67 @@
+//! A file of a command, read and judged.
+
+ghost use Rattle.std.specs.Prelude.{◌≡◌, ◌≤◌, List, ℕ, length, IfOk};
+ghost use Rattle.tie_top.specs.Files.{shelved, IsTextOf, IsTie, IsAlone, IsHex, RefusesTie, RefusesAlone, RefusesHex, IsWrong};
+ghost use Rattle.tie_top.specs.Parts.{Judges};
+
+use crate::refusal::Refusal;
+use crate::text::Text;
+use crate::texts::{alone_of, hex_of, tie_of};
+use std::alloc::Global;
+use tie_desc::Desc;
+use tie_io::{ReadFault, Shelf};
+
+// The most bytes of a file.
+const FILE_LIMIT: usize = 1_048_576;
+
+// The bytes of a file.
+fn read_file<S: Shelf>(alloc: Global, name: &str, shelf: &mut S) -> Result<Vec<u8>, Refusal>
+    ensures read { Judges (λ file. IsTextOf (shelved S.holds S.faults shelf.old shelf.new) name.now file.items)
+        (IsWrong (shelved S.holds S.faults shelf.old shelf.new) name.now (λ text refusal. ⊥)) result }
+    ensures small { IfOk result (λ file. length file.items ≤ 1048576) }
+    ensures same { (other : List ℕ) → S.holds shelf.new other ≡ S.holds shelf.old other }
+    ensures later { (other : List ℕ) → S.faults shelf.old other ≤ S.faults shelf.new other }
+{
+    let owned = Text::copy_of(alloc, name)?;
+    let mut bytes = Vec::new(alloc);
+    match shelf.read(name, FILE_LIMIT, &mut bytes) {
+        Ok(()) => Ok(bytes),
+        Err(ReadFault::Failed) => Err(Refusal::ReadFault { name: owned }),
+        Err(ReadFault::TooLong) => Err(Refusal::TooLong { name: owned }),
+        Err(ReadFault::NoMemory) => Err(Refusal::NoMemory),
+    }
+}
+
+/// The description in a file of TIE text.
+pub fn read_tie_file<S: Shelf>(alloc: Global, name: &str, shelf: &mut S) -> Result<Desc, Refusal>
+    ensures judged { Judges (IsTie (shelved S.holds S.faults shelf.old shelf.new) name.now)
+        (IsWrong (shelved S.holds S.faults shelf.old shelf.new) name.now (RefusesTie name.now)) result }
+    ensures same { (other : List ℕ) → S.holds shelf.new other ≡ S.holds shelf.old other }
+    ensures later { (other : List ℕ) → S.faults shelf.old other ≤ S.faults shelf.new other }
+{
+    let text = read_file(alloc, name, shelf)?;
+    tie_of(alloc, name, &text)
+}
+
+/// The same, without queues.
+pub fn read_alone_file<S: Shelf>(alloc: Global, name: &str, shelf: &mut S) -> Result<Desc, Refusal>
+    ensures judged { Judges (IsAlone (shelved S.holds S.faults shelf.old shelf.new) name.now)
+        (IsWrong (shelved S.holds S.faults shelf.old shelf.new) name.now (RefusesAlone name.now)) result }
+    ensures same { (other : List ℕ) → S.holds shelf.new other ≡ S.holds shelf.old other }
+    ensures later { (other : List ℕ) → S.faults shelf.old other ≤ S.faults shelf.new other }
+{
+    let text = read_file(alloc, name, shelf)?;
+    alone_of(alloc, name, &text)
+}
+
+/// The image in a file of hexadecimal text.
+pub fn read_hex_file<S: Shelf>(alloc: Global, name: &str, shelf: &mut S) -> Result<Vec<u8>, Refusal>
+    ensures judged { Judges (λ image. IsHex (shelved S.holds S.faults shelf.old shelf.new) name.now image.items)
+        (IsWrong (shelved S.holds S.faults shelf.old shelf.new) name.now (RefusesHex name.now)) result }
+    ensures small { IfOk result (λ image. length image.items ≤ 65536) }
+    ensures same { (other : List ℕ) → S.holds shelf.new other ≡ S.holds shelf.old other }
+    ensures later { (other : List ℕ) → S.faults shelf.old other ≤ S.faults shelf.new other }
+{
+    let text = read_file(alloc, name, shelf)?;
+    hex_of(alloc, name, &text)
+}

@@ -1,0 +1,66 @@
+//! What the text of a file is: a description, an image, or how it is refused.
+
+ghost use Rattle.std.specs.Prelude.{◌≡◌, ◌≤◌, length, IfOk, Ok};
+ghost use Rattle.tie_front.specs.Front.{IsDescriptionOf, IsAloneOf};
+ghost use Rattle.hex_text.specs.Hexadecimal.{hex_bytes};
+ghost use Rattle.tie_top.specs.Files.{RefusesTie, RefusesAlone, RefusesHex};
+ghost use Rattle.tie_top.specs.Parts.{Judges};
+
+use crate::refusal::Refusal;
+use crate::text::Text;
+use hex_text::{HexRefusal, read_hex};
+use std::alloc::Global;
+use tie_desc::Desc;
+use tie_front::{TieRefusal, read_alone, read_tie};
+
+// The most bytes of an image.
+const IMAGE_LIMIT: usize = 65_536;
+
+/// The description of a TIE text, which is that of the file of this name.
+pub fn tie_of(alloc: Global, name: &str, text: &[u8]) -> Result<Desc, Refusal>
+    requires { length text.now ≤ 1048576 }
+    ensures { Judges (IsDescriptionOf text.now) (RefusesTie name.now text.now) result }
+{
+    match read_tie(alloc, text) {
+        Ok(desc) => Ok(desc),
+        Err(TieRefusal::Fault { rule, place }) => Err(Refusal::TieRefused {
+            name: Text::copy_of(alloc, name)?,
+            rule,
+            place,
+        }),
+        Err(TieRefusal::NoMemory) => Err(Refusal::NoMemory),
+    }
+}
+
+/// The same for a processor that stands alone, whose text declares no queue.
+pub fn alone_of(alloc: Global, name: &str, text: &[u8]) -> Result<Desc, Refusal>
+    requires { length text.now ≤ 1048576 }
+    ensures { Judges (IsAloneOf text.now) (RefusesAlone name.now text.now) result }
+{
+    match read_alone(alloc, text) {
+        Ok(desc) => Ok(desc),
+        Err(TieRefusal::Fault { rule, place }) => Err(Refusal::TieRefused {
+            name: Text::copy_of(alloc, name)?,
+            rule,
+            place,
+        }),
+        Err(TieRefusal::NoMemory) => Err(Refusal::NoMemory),
+    }
+}
+
+/// The image in a hexadecimal text.
+pub fn hex_of(alloc: Global, name: &str, text: &[u8]) -> Result<Vec<u8>, Refusal>
+    requires { length text.now ≤ 1048576 }
+    ensures bytes { Judges (λ image. hex_bytes 65536 text.now ≡ Ok image.items) (RefusesHex name.now text.now) result }
+    ensures small { IfOk result (λ image. length image.items ≤ 65536) }
+{
+    match read_hex(alloc, text, IMAGE_LIMIT) {
+        Ok(image) => Ok(image),
+        Err(HexRefusal::Fault { rule, place }) => Err(Refusal::HexRefused {
+            name: Text::copy_of(alloc, name)?,
+            rule,
+            place,
+        }),
+        Err(HexRefusal::NoMemory) => Err(Refusal::NoMemory),
+    }
+}

@@ -1,0 +1,25 @@
+-- The definitions on worked rows.
+use Rattle.std.proofs.Common.{codes, [], ◌∷◌, refl}
+use Rattle.tie_words.specs.Words.{Check, Exec, ExecTie, Accepts, WrongAt}
+use Rattle.tie_words.proofs.WordLemmas.{check_form, exec_form, names_read, none_wrong, is_check, is_exec, is_exec_tie}
+
+check_text : Accepts (codes "check" ∷ codes "t" ∷ []) (Check (codes "t"))
+check_text = is_check (codes "t" ∷ []) (codes "t") (names_read (codes "check") 1 1 check_form (codes "t" ∷ [])) refl
+
+exec_image : Accepts (codes "exec" ∷ codes "p" ∷ []) (Exec (codes "p"))
+exec_image = is_exec (codes "p" ∷ []) (codes "p") (names_read (codes "exec") 1 2 exec_form (codes "p" ∷ [])) refl
+
+exec_both : Accepts (codes "exec" ∷ codes "p" ∷ codes "t" ∷ []) (ExecTie (codes "p") (codes "t"))
+exec_both = is_exec_tie (codes "p" ∷ codes "t" ∷ []) (codes "p") (codes "t") (names_read (codes "exec") 1 2 exec_form (codes "p" ∷ codes "t" ∷ [])) refl
+
+none : WrongAt [] 0
+none = none_wrong
+
+missing : WrongAt (codes "exec" ∷ []) 1
+missing = names_read (codes "exec") 1 2 exec_form []
+
+empty : WrongAt (codes "exec" ∷ [] ∷ codes "t" ∷ []) 1
+empty = names_read (codes "exec") 1 2 exec_form ([] ∷ codes "t" ∷ [])
+
+more : WrongAt (codes "exec" ∷ codes "p" ∷ codes "t" ∷ codes "q" ∷ []) 3
+more = names_read (codes "exec") 1 2 exec_form (codes "p" ∷ codes "t" ∷ codes "q" ∷ [])

@@ -1,0 +1,80 @@
+ghost use Rattle.std.specs.Prelude.{◌≡◌, ◌≤◌, ◌∷◌, codes, map, string_bytes, MatchResult, IfSome};
+ghost use Rattle.tie_words.specs.Words.{Accepts, WrongAt};
+ghost use Rattle.tie_words.specs.Reading.{seen, wrong_from};
+
+/// A command, with those of its words that aren't fixed: names of files.
+#[derive(Clone, Copy, Debug)]
+pub enum Command<'a> {
+    /// Judges a TIE text and lists what it declares.
+    Check { tie: &'a str },
+    /// Runs the image in a file of hexadecimal text.
+    Exec { hex: &'a str },
+    /// Runs it with the extension of a TIE text.
+    ExecTie { hex: &'a str, tie: &'a str },
+}
+
+/// The command of the words, or the number of the first word that is wrong or missing.
+pub fn command_of(words: &[String]) -> Result<Command<'_>, u32>
+    ensures { MatchResult result
+        (λ command. Accepts (map string_bytes words.now) (seen command))
+        (λ place. WrongAt (map string_bytes words.now) place) }
+{
+    let Some((word, names)) = words.split_first() else {
+        return Err(0);
+    };
+    match word.as_str() {
+        "check" => check_of(names),
+        "exec" => exec_of(names),
+        _ => Err(0),
+    }
+}
+
+fn check_of(names: &[String]) -> Result<Command<'_>, u32>
+    ensures { MatchResult result
+        (λ command. Accepts (codes "check" ∷ map string_bytes names.now) (seen command))
+        (λ place. WrongAt (codes "check" ∷ map string_bytes names.now) place) }
+{
+    match wrong_name(names, 1, 1) {
+        Some(number) => Err(1 + number),
+        None => Ok(Command::Check {
+            tie: names[0].as_str(),
+        }),
+    }
+}
+
+fn exec_of(names: &[String]) -> Result<Command<'_>, u32>
+    ensures { MatchResult result
+        (λ command. Accepts (codes "exec" ∷ map string_bytes names.now) (seen command))
+        (λ place. WrongAt (codes "exec" ∷ map string_bytes names.now) place) }
+{
+    if let Some(number) = wrong_name(names, 1, 2) {
+        return Err(1 + number);
+    }
+    let hex = names[0].as_str();
+    if names.len() == 1 {
+        Ok(Command::Exec { hex })
+    } else {
+        Ok(Command::ExecTie {
+            hex,
+            tie: names[1].as_str(),
+        })
+    }
+}
+
+// Of the names of a command that takes so many at least and at most, the number of the first one that is empty or one too
+// many, or that is missing.
+fn wrong_name(names: &[String], least: u32, most: u32) -> Option<u32>
+    requires order { least ≤ most }
+    requires few { most ≤ 1000 }
+    ensures found { result ≡ wrong_from least most 0 (map string_bytes names.now) }
+    ensures small { IfSome result (λ number. number ≤ most) }
+{
+    let mut number = 0;
+    for name in names {
+        if number == most || name.as_str().is_empty() {
+            return Some(number);
+        }
+        number += 1;
+    }
+    if number < least { Some(number) } else { None }
+}

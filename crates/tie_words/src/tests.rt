@@ -1,0 +1,81 @@
+use crate::{Command, command_of};
+use std::alloc::{AllocError, Global};
+use std::test::Fail;
+
+// Words, and the number of the first wrong one where they aren't accepted.
+#[derive(Clone, Copy)]
+struct Row {
+    words: &'static [&'static str],
+    wrong: Option<u32>,
+}
+
+const ROWS: [Row; 9] = [
+    Row {
+        words: &[],
+        wrong: Some(0),
+    },
+    Row {
+        words: &["run", "p"],
+        wrong: Some(0),
+    },
+    Row {
+        words: &["exec"],
+        wrong: Some(1),
+    },
+    Row {
+        words: &["exec", ""],
+        wrong: Some(1),
+    },
+    Row {
+        words: &["exec", "p", ""],
+        wrong: Some(2),
+    },
+    Row {
+        words: &["exec", "p", "t", "q"],
+        wrong: Some(3),
+    },
+    Row {
+        words: &["check", "t", "q"],
+        wrong: Some(2),
+    },
+    Row {
+        words: &["check", "t"],
+        wrong: None,
+    },
+    Row {
+        words: &["exec", "p", "t"],
+        wrong: None,
+    },
+];
+
+fn words_of(alloc: Global, row: &Row) -> Result<Vec<String>, AllocError> {
+    let mut words = Vec::new(alloc);
+    for word in row.words {
+        words.push(String::from_str(alloc, word)?)?;
+    }
+    Ok(words)
+}
+
+#[test]
+fn rows(rt: HostRuntime) -> Result<(), Fail> {
+    for (number, row) in ROWS.iter().enumerate() {
+        let words = words_of(rt.alloc(), row)?;
+        assert!(rt; command_of(&words).err() == row.wrong, "row {number}");
+    }
+    Ok(())
+}
+
+#[test]
+fn files_of_exec(rt: HostRuntime) -> Result<(), Fail> {
+    let row = Row {
+        words: &["exec", "p", "t"],
+        wrong: None,
+    };
+    let words = words_of(rt.alloc(), &row)?;
+    let named = match command_of(&words) {
+        Ok(Command::ExecTie { hex, tie }) => hex == "p" && tie == "t",
+        _ => false,
+    };
+    assert!(rt; named);
+    Ok(())
+}

@@ -1,0 +1,4 @@
+pub mod Differ
+pub mod Fine
+pub mod Fitted
+pub mod Small

@@ -1,0 +1,6 @@
+pub mod Sizes
+pub mod Steps
+pub mod Filled
+pub mod Fitting
+pub mod OneListing
+pub mod Example

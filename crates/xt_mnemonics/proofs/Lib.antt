@@ -1,0 +1,4 @@
+mod Fitting
+mod NameLaws
+mod Table
+pub mod Upper

@@ -1,0 +1,3 @@
+pub mod BoundLemmas
+pub mod HeldLemmas
+pub mod SlotLemmas

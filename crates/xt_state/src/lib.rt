@@ -1,0 +1,12 @@
+//! The state of a processor.
+#![tactic(auto)]
+
+mod arch;
+mod bank;
+mod memory;
+#[cfg(test)]
+mod tests;
+
+pub use arch::Arch;
+pub use memory::NoMemory;
+pub use xt_core::{Ending, Registers, Trap};

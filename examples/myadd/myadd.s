@@ -1,0 +1,4 @@
+MOVI a2, 5
+MOVI a3, -1
+MYADD a4, a2, a3
+SIMCALL

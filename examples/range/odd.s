@@ -1,0 +1,2 @@
+MOVI a2, 10
+ADDE a2, 7

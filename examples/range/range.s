@@ -1,0 +1,4 @@
+MOVI a2, 10
+ADDE a2, 6
+ADDE a2, -4
+SIMCALL

@@ -1,0 +1,6 @@
+MOVI a2, 2047
+SLLI a2, a2, 4
+SMAC a2, a2
+SMAC a2, a2
+SMAC a2, a2
+SIMCALL

@@ -1,0 +1,4 @@
+MOVI a2, 5
+MOVI a3, -1
+F { MOVX a2, a3 ; MOVY a3, a2 }
+SIMCALL

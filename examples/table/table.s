@@ -1,0 +1,5 @@
+MOVI a2, 3
+SQUARE a3, a2
+MOVI a4, 4
+SQUARE a4, a4
+SIMCALL

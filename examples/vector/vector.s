@@ -1,0 +1,4 @@
+MOVI a2, 3
+SPLAT v0, a2
+ADDV v1, v0, v0
+SIMCALL

@@ -20,6 +20,7 @@ mod declarations;
 mod each;
 mod least;
 mod locals;
+mod measured;
 mod mnemonics;
 mod names;
 mod parts;

@@ -12,12 +12,14 @@ ghost use Rattle.tie_rules.specs.Names.{seen_widths};
 
 use crate::bodies::number_of;
 use crate::declarations::{least_in_body, value as number_value};
-use crate::each::{Judge, JudgeIn, least_made};
+use crate::each::{Judge, JudgeIn, least_in, least_made};
 use crate::least::{earlier, when};
+use crate::measured::measured;
+use crate::names::body as items_of;
 use crate::widths::{Body, body_of};
 use std::alloc::Global;
 use tie_grammar::symbol::{Leaf, TieFunction};
-use tie_grammar::tree::{Decl, Expr, Literal, Tree};
+use tie_grammar::tree::{Decl, Expr, Item, Tree};
 use tie_mean::NoMemory;
 use tie_mean::body::{function_counts, operation_count};
 use tie_mean::scope::FunctionCount;
@@ -172,51 +174,23 @@ pub fn arg_size(alloc: Global, tree: &Tree) -> Result<Option<u32>, NoMemory>
 
 // ---- 25
 
-fn literal_start(x: &Literal) -> u32
-    ensures { result ≡ rule.literal_start x.now }
-{
-    match x {
-        Literal::Number(leaf) => leaf.place,
-        Literal::Sized(leaf) => leaf.place,
-    }
-}
-
-/// The place of an expression's first token.
-fn start(x: &Expr) -> u32
-    ensures { result ≡ rule.start x.now }
-{
-    match x {
-        Expr::Literal(literal) => literal_start(literal),
-        Expr::Name(n) => n.place,
-        Expr::Select(n, _, _) => n.place,
-        Expr::Index(n, _) => n.place,
-        Expr::Call(n, _, _) => n.place,
-        Expr::Tie(word, _, _) => word.place,
-        Expr::Paren(place, _) => *place,
-        Expr::Concat(place, _) => *place,
-        Expr::Repeat(place, _, _, _) => *place,
-        Expr::Unary(_, place, _) => *place,
-        Expr::Binary(_, left, _) => start(left.get()),
-        Expr::Conditional(condition, _, _) => start(condition.get()),
-    }
-}
-
 #[derive(Clone, Copy)]
-struct SizeHere<'a, 's, 't> {
+struct WideItem<'a, 's, 't> {
     body: &'a Body<'s, 't>,
 }
 
-impl Judge<Expr> for SizeHere<'_, '_, '_> {
+impl Judge<Item> for WideItem<'_, '_, '_> {
     ghost use Rattle.tie_rules.specs.Bodies.{size_here};
+    ghost use Rattle.tie_rules.specs.Declarations.{in_item};
     ghost use Rattle.tie_rules.specs.Names.{seen_widths};
 
-    ghost places = { λ s. size_here (seen_widths s.body.now.tree.now s.body.now.decl.now) };
+    ghost places = { λ s. in_item (size_here (seen_widths s.body.now.tree.now s.body.now.decl.now)) };
 
-    fn judge(&self, x: &Expr) -> Option<u32> {
-        if size(self.body, x) > 128 {
-            Some(start(x))
-        } else {
-            None
+    fn judge(&self, item: &Item) -> Option<u32> {
+        match item {
+            Item::Wire(_, _) => None,
+            Item::WireSet(_, _, x) => measured(self.body, x).place,
+            Item::Assign(_, x) => measured(self.body, x).place,
         }
     }
 }
@@ -233,7 +207,7 @@ impl JudgeIn<Decl> for SizeRange<'_> {
 
     fn judge(&self, alloc: Global, decl: &Decl) -> Result<Option<u32>, NoMemory> {
         let body = body_of(alloc, self.tree, decl)?;
-        Ok(least_in_body(&SizeHere { body: &body }, decl))
+        Ok(least_in(&WideItem { body: &body }, items_of(decl)))
     }
 }
 

@@ -1,21 +1,24 @@
 -- What a call comes to, and that each status comes only by its cause.
 use Rattle.std.proofs.Common.{◌≡◌, ◌≢◌, ◌⊎◌, ℕ, List, [], ◌∷◌, Ok, Err, refl, sym, ap, subst, inl, inr, ◌∙◌}
 use Rattle.tie_io.specs.Counts.{Rose}
+use Rattle.tie_io.specs.Writing.{Grew, GrewWithin}
 use Rattle.hex_text.specs.declared.hexadecimal.HexRule.{HexRule}
 use Rattle.tie_front.specs.declared.refusal.TieRule.{TieRule}
+use Rattle.asm_lines.specs.declared.refusal.AsmRule.{AsmRule}
 use Rattle.xt_core.specs.declared.ending.Ending.{Ending}
 use Rattle.xt_core.specs.declared.ending.Ending.TheVariants as endings
-use Rattle.tie_words.specs.Words.{Meant, Check, Exec, ExecTie, Accepts, WrongAt}
+use Rattle.tie_words.specs.Words.{Meant, Check, Asm, Dis, Exec, ExecTie, Accepts, WrongAt}
 use Rattle.tie_top.specs.declared.status.Status.{Status}
 use Rattle.tie_top.specs.declared.status.Status.TheVariants as statuses
 use Rattle.tie_top.specs.declared.refusal.Refusal.{Refusal}
-use Rattle.tie_top.specs.declared.refusal.Refusal.TheVariants.{Usage, ReadFault, TooLong, TieRefused, HexRefused, NoMemory}
+use Rattle.tie_top.specs.declared.refusal.Refusal.TheVariants.{Usage, ReadFault, TooLong, TieRefused, AsmRefused, HexRefused, NoMemory}
 use Rattle.tie_top.specs.declared.report.Report.{Report}
 use Rattle.tie_top.specs.Printing.{line_of, status_of, end_status}
-use Rattle.tie_top.specs.Files.{Shelved, File, Tie, Alone, Hex, files, name_of, Refuses, IsWrong, ReadFails, IsTooLong, TextIsWrong, FirstWrong}
-use Rattle.tie_top.specs.Meaning.{Yields, Means}
-use Rattle.tie_top.specs.Delivery.{Delivered, Whole, Faulted}
+use Rattle.tie_top.specs.Files.{Shelved, File, Tie, Alone, Hex, Source, files, name_of, Refuses, IsWrong, ReadFails, IsTooLong, TextIsWrong, FirstWrong}
+use Rattle.tie_top.specs.Meaning.{Verdict, Yields, CommandMeans, Means, UnlessMemory}
+use Rattle.tie_top.specs.Delivery.{Sunk, Delivered, Whole, Faulted, Wanted}
 use Rattle.tie_top.specs.Answers.{Call, IsRight, Says, IsRefusedSo, Shows, IsGiven, ReadFaultIsRight, WriteFaultIsRight}
+use Rattle.tie_top.proofs.Writing.{Grew-nothing}
 
 -- ---- which refusals files have, and which statuses reports
 
@@ -24,12 +27,13 @@ IsOfFile (Usage word) = ⊥
 IsOfFile NoMemory = ⊥
 IsOfFile other = Unit {0}
 
-wrong_of : (s : Shelved) (file : File) (e : Refusal) → IsWrong s (name_of file) (Refuses file) e → IsOfFile e
+wrong_of : (s : Shelved) (file : File) (e : Refusal) → IsWrong s (name_of file) (Refuses s file) e → IsOfFile e
 wrong_of s file e (ReadFails p rose) = rw p tt
 wrong_of s file e (IsTooLong p front longer) = rw p tt
 wrong_of s (Tie name) e (TextIsWrong text read (rule, place, h, p)) = rw p tt
 wrong_of s (Alone name) e (TextIsWrong text read (rule, place, h, p)) = rw p tt
 wrong_of s (Hex name) e (TextIsWrong text read (rule, place, h, p)) = rw p tt
+wrong_of s (Source tie name) e (TextIsWrong text read (d, h, (rule, line, column, k, p))) = rw p tt
 
 pub first_of : (s : Shelved) (fs : List File) (e : Refusal) → FirstWrong s fs e → IsOfFile e
 first_of s [] e h = absurd h
@@ -46,6 +50,8 @@ is_end (endings.Trapped trap) = inr (inl refl)
 
 pub yields_end : (s : Shelved) (command : Meant) (report : Report) → Yields s command report → IsEnd report.status
 yields_end s (Check tie) report (d, h, p) = inl (ap (λ (r : Report). r.status) p)
+yields_end s (Asm tie source) report (d, image, h, k, p) = inl (ap (λ (r : Report). r.status) p)
+yields_end s (Dis tie hex) report (d, image, h, k, text, l, p) = inl (ap (λ (r : Report). r.status) p)
 yields_end s (Exec hex) report (image, h, (retired, end, stops, p)) = subst IsEnd (sym (ap (λ (r : Report). r.status) p)) (is_end end.ending)
 yields_end s (ExecTie hex tie) report (image, d, h, k, (retired, end, stops, p)) = subst IsEnd (sym (ap (λ (r : Report). r.status) p)) (is_end end.ending)
 
@@ -87,13 +93,13 @@ comes c (Err refusal, inr m, d) = refusal_comes c refusal m d
 -- ---- each status comes only by its cause
 
 -- no report has a status of another kind
-no_end : (s : Status) → IsEnd s → (s ≢ statuses.Usage) × (s ≢ statuses.ReadFault) × (s ≢ statuses.TooLong) × (s ≢ statuses.TieRefused) × (s ≢ statuses.TextRefused)
-no_end s (inl p) = rw p ((λ e. absurd cc), (λ e. absurd cc), (λ e. absurd cc), (λ e. absurd cc), (λ e. absurd cc))
-no_end s (inr (inl p)) = rw p ((λ e. absurd cc), (λ e. absurd cc), (λ e. absurd cc), (λ e. absurd cc), (λ e. absurd cc))
-no_end s (inr (inr p)) = rw p ((λ e. absurd cc), (λ e. absurd cc), (λ e. absurd cc), (λ e. absurd cc), (λ e. absurd cc))
+no_end : (s : Status) → IsEnd s → (s ≢ statuses.Usage) × (s ≢ statuses.ReadFault) × (s ≢ statuses.TooLong) × (s ≢ statuses.TieRefused) × (s ≢ statuses.TextRefused) × (s ≢ statuses.AsmRefused)
+no_end s (inl p) = rw p ((λ e. absurd cc), (λ e. absurd cc), (λ e. absurd cc), (λ e. absurd cc), (λ e. absurd cc), (λ e. absurd cc))
+no_end s (inr (inl p)) = rw p ((λ e. absurd cc), (λ e. absurd cc), (λ e. absurd cc), (λ e. absurd cc), (λ e. absurd cc), (λ e. absurd cc))
+no_end s (inr (inr p)) = rw p ((λ e. absurd cc), (λ e. absurd cc), (λ e. absurd cc), (λ e. absurd cc), (λ e. absurd cc), (λ e. absurd cc))
 
 no_report : (c : Call) (command : Meant) (report : Report) → Yields c.shelf command report → c.status ≡ report.status
-    → (c.status ≢ statuses.Usage) × (c.status ≢ statuses.ReadFault) × (c.status ≢ statuses.TooLong) × (c.status ≢ statuses.TieRefused) × (c.status ≢ statuses.TextRefused)
+    → (c.status ≢ statuses.Usage) × (c.status ≢ statuses.ReadFault) × (c.status ≢ statuses.TooLong) × (c.status ≢ statuses.TieRefused) × (c.status ≢ statuses.TextRefused) × (c.status ≢ statuses.AsmRefused)
 no_report c command report y p = no_end c.status (subst IsEnd (sym p) (yields_end c.shelf command report y))
 
 pub usage_only : (c : Call) → IsRight c → c.status ≡ statuses.Usage → (place : ℕ) × WrongAt c.words place × Says c (Usage place)
@@ -103,6 +109,7 @@ usage_only c r e = at (comes c r)
     of (ReadFault n) o p = absurd cc
     of (TooLong n) o p = absurd cc
     of (TieRefused n rule place) o p = absurd cc
+    of (AsmRefused n rule line column) o p = absurd cc
     of (HexRefused n rule place) o p = absurd cc
     of (Usage n) o p = absurd o
     of NoMemory o p = absurd o
@@ -122,6 +129,7 @@ rose_of s (file ∷ fs) name (inl (IsTooLong p front longer)) = absurd cc
 rose_of s (Tie n ∷ fs) name (inl (TextIsWrong text read (rule, place, h, p))) = absurd cc
 rose_of s (Alone n ∷ fs) name (inl (TextIsWrong text read (rule, place, h, p))) = absurd cc
 rose_of s (Hex n ∷ fs) name (inl (TextIsWrong text read (rule, place, h, p))) = absurd cc
+rose_of s (Source tie n ∷ fs) name (inl (TextIsWrong text read (d, h, (rule, line, column, k, p)))) = absurd cc
 rose_of s (file ∷ fs) name (inr h) = rose_of s fs name h.1
 
 pub read_fault_only : (c : Call) → IsRight c → ReadFaultIsRight c
@@ -130,6 +138,7 @@ read_fault_only c r e = at (comes c r)
     of : (command : Meant) (refusal : Refusal) → Accepts c.words command → FirstWrong c.shelf (files command) refusal → c.status ≡ status_of refusal → Says c refusal
         → (name : List ℕ) × Rose (c.shelf.before name) (c.shelf.after name) × IsRefusedSo c (ReadFault name)
     of command (ReadFault n) a first p w = (n, rose_of c.shelf (files command) n first, (command, a, first, w))
+    of command (AsmRefused n rule line column) a first p w = absurd cc
     of command (TooLong n) a first p w = absurd cc
     of command (TieRefused n rule place) a first p w = absurd cc
     of command (HexRefused n rule place) a first p w = absurd cc
@@ -149,6 +158,7 @@ too_long_only c r e = at (comes c r)
     of : (command : Meant) (refusal : Refusal) → Accepts c.words command → FirstWrong c.shelf (files command) refusal → c.status ≡ status_of refusal → Says c refusal
         → (name : List ℕ) × IsRefusedSo c (TooLong name)
     of command (TooLong n) a first p w = (n, (command, a, first, w))
+    of command (AsmRefused n rule line column) a first p w = absurd cc
     of command (ReadFault n) a first p w = absurd cc
     of command (TieRefused n rule place) a first p w = absurd cc
     of command (HexRefused n rule place) a first p w = absurd cc
@@ -168,6 +178,7 @@ tie_refused_only c r e = at (comes c r)
     of : (command : Meant) (refusal : Refusal) → Accepts c.words command → FirstWrong c.shelf (files command) refusal → c.status ≡ status_of refusal → Says c refusal
         → (name : List ℕ) × (rule : TieRule) × (place : ℕ) × IsRefusedSo c (TieRefused name rule place)
     of command (TieRefused n rule place) a first p w = (n, rule, place, (command, a, first, w))
+    of command (AsmRefused n rule line column) a first p w = absurd cc
     of command (ReadFault n) a first p w = absurd cc
     of command (TooLong n) a first p w = absurd cc
     of command (HexRefused n rule place) a first p w = absurd cc
@@ -187,6 +198,7 @@ text_refused_only c r e = at (comes c r)
     of : (command : Meant) (refusal : Refusal) → Accepts c.words command → FirstWrong c.shelf (files command) refusal → c.status ≡ status_of refusal → Says c refusal
         → (name : List ℕ) × (rule : HexRule) × (place : ℕ) × IsRefusedSo c (HexRefused name rule place)
     of command (HexRefused n rule place) a first p w = (n, rule, place, (command, a, first, w))
+    of command (AsmRefused n rule line column) a first p w = absurd cc
     of command (ReadFault n) a first p w = absurd cc
     of command (TooLong n) a first p w = absurd cc
     of command (TieRefused n rule place) a first p w = absurd cc
@@ -195,6 +207,26 @@ text_refused_only c r e = at (comes c r)
 
     at : Comes c → (name : List ℕ) × (rule : HexRule) × (place : ℕ) × IsRefusedSo c (HexRefused name rule place)
     at (Reports command report a y p w) = absurd ((no_report c command report y p).4 e)
+    at (Refusing command refusal a first p w) = of command refusal a first p w
+    at (Misused place wrong p w) = absurd cc
+    at (Faults p f) = absurd cc
+    at (Wants p) = absurd cc
+
+pub asm_refused_only : (c : Call) → IsRight c → c.status ≡ statuses.AsmRefused → (name : List ℕ) × (rule : AsmRule) × (line : ℕ) × (column : ℕ) × IsRefusedSo c (AsmRefused name rule line column)
+asm_refused_only c r e = at (comes c r)
+  where
+    of : (command : Meant) (refusal : Refusal) → Accepts c.words command → FirstWrong c.shelf (files command) refusal → c.status ≡ status_of refusal → Says c refusal
+        → (name : List ℕ) × (rule : AsmRule) × (line : ℕ) × (column : ℕ) × IsRefusedSo c (AsmRefused name rule line column)
+    of command (AsmRefused n rule line column) a first p w = (n, rule, line, column, (command, a, first, w))
+    of command (ReadFault n) a first p w = absurd cc
+    of command (TooLong n) a first p w = absurd cc
+    of command (TieRefused n rule place) a first p w = absurd cc
+    of command (HexRefused n rule place) a first p w = absurd cc
+    of command (Usage n) a first p w = absurd cc
+    of command NoMemory a first p w = absurd cc
+
+    at : Comes c → (name : List ℕ) × (rule : AsmRule) × (line : ℕ) × (column : ℕ) × IsRefusedSo c (AsmRefused name rule line column)
+    at (Reports command report a y p w) = absurd ((no_report c command report y p).5 e)
     at (Refusing command refusal a first p w) = of command refusal a first p w
     at (Misused place wrong p w) = absurd cc
     at (Faults p f) = absurd cc
@@ -223,6 +255,12 @@ no_refusal (TooLong n) = no
 no_refusal (TieRefused n rule place) = no
   where
     no : IsEnd statuses.TieRefused → ⊥
+    no (inl p) = absurd cc
+    no (inr (inl p)) = absurd cc
+    no (inr (inr p)) = absurd cc
+no_refusal (AsmRefused n rule line column) = no
+  where
+    no : IsEnd statuses.AsmRefused → ⊥
     no (inl p) = absurd cc
     no (inr (inl p)) = absurd cc
     no (inr (inr p)) = absurd cc
@@ -263,6 +301,7 @@ not_write_fault (Usage place) = λ p. absurd cc
 not_write_fault (ReadFault name) = λ p. absurd cc
 not_write_fault (TooLong name) = λ p. absurd cc
 not_write_fault (TieRefused name rule place) = λ p. absurd cc
+not_write_fault (AsmRefused name rule line column) = λ p. absurd cc
 not_write_fault (HexRefused name rule place) = λ p. absurd cc
 not_write_fault NoMemory = λ p. absurd cc
 
@@ -282,6 +321,7 @@ refusal_given (Usage place) = tt
 refusal_given (ReadFault name) = tt
 refusal_given (TooLong name) = tt
 refusal_given (TieRefused name rule place) = tt
+refusal_given (AsmRefused name rule line column) = tt
 refusal_given (HexRefused name rule place) = tt
 refusal_given NoMemory = tt
 

@@ -1,13 +1,16 @@
 -- From what a command means to what the words mean.
-use Rattle.std.proofs.Common.{◌≡◌, ◌⊎◌, ℕ, List, Ok, Err, refl, ap, inl, inr}
+use Rattle.std.proofs.Common.{◌≡◌, ◌⊎◌, ℕ, List, Result, Ok, Err, refl, ap, inl, inr}
 use Rattle.tie_desc.specs.Description.{Description}
-use Rattle.tie_words.specs.Words.{Meant, Check, Exec, ExecTie, Accepts, WrongAt}
+use Rattle.tie_words.specs.Words.{Meant, Check, Asm, Dis, Exec, ExecTie, Accepts, WrongAt}
 use Rattle.tie_top.specs.declared.refusal.Refusal.{Refusal}
 use Rattle.tie_top.specs.declared.refusal.Refusal.TheVariants.{Usage, NoMemory}
-use Rattle.tie_top.specs.Files.{Shelved, IsAlone, IsHex, RefusesTie, RefusesAlone, RefusesHex, IsWrong}
-use Rattle.tie_top.specs.Meaning.{Verdict, Reports, bare, CommandMeans, Means, UnlessMemory}
+use Rattle.xt_dis.specs.Listing.{Lists}
+use Rattle.tie_lines.specs.Lines.{image_text}
+use Rattle.tie_top.specs.declared.report.Report.{Report}
+use Rattle.tie_top.specs.Files.{Shelved, IsTie, IsAlone, IsHex, IsSource, Source, Refuses, RefusesTie, RefusesAlone, RefusesHex, RefusesSource, IsWrong}
+use Rattle.tie_top.specs.Meaning.{Verdict, Reports, bare, done, CommandMeans, Means, UnlessMemory}
 use Rattle.tie_top.specs.Parts.{Judges}
-use Rattle.tie_top.proofs.Steps.{Within, wrong_within, hex_within, alone_within}
+use Rattle.tie_top.proofs.Steps.{Within, wrong_within, tie_within, hex_within, alone_within, source_within, wrong_as}
 
 -- the verdict of a command is that of its words
 pub accepted : (s : Shelved) (words : List (List ℕ)) (command : Meant) (v : Verdict)
@@ -52,3 +55,43 @@ pub exec_tie_ok : (one two s : Shelved) (hex tie image : List ℕ) (d : Descript
 exec_tie_ok one two s hex tie image d (Ok report) v w h k runs = inr (image, d, hex_within one s v hex image h, alone_within two s w tie d k, runs)
 exec_tie_ok one two s hex tie image d (Err e) v w h k (inl p) = inl (ap Err p)
 exec_tie_ok one two s hex tie image d (Err e) v w h k (inr none) = absurd none
+
+-- ---- two files of which the first is a TIE text
+
+-- the TIE text is wrong
+pub asm_first : (small s : Shelved) (tie source : List ℕ) (e : Refusal) → Within small s → (e ≡ NoMemory) ⊎ IsWrong small tie (RefusesTie tie) e
+    → UnlessMemory (CommandMeans s (Asm tie source)) (Err e)
+asm_first small s tie source e w (inl p) = inl (ap Err p)
+asm_first small s tie source e w (inr h) = inr (inl (wrong_within small s w tie (RefusesTie tie) e h))
+
+pub dis_first : (small s : Shelved) (tie hex : List ℕ) (e : Refusal) → Within small s → (e ≡ NoMemory) ⊎ IsWrong small tie (RefusesTie tie) e
+    → UnlessMemory (CommandMeans s (Dis tie hex)) (Err e)
+dis_first small s tie hex e w (inl p) = inl (ap Err p)
+dis_first small s tie hex e w (inr h) = inr (inl (wrong_within small s w tie (RefusesTie tie) e h))
+
+-- the second file is wrong
+pub asm_second : (one two s : Shelved) (tie source : List ℕ) (d : Description) (e : Refusal) → Within one s → Within two s → IsTie one tie d
+    → (e ≡ NoMemory) ⊎ IsWrong two source (RefusesSource d source) e → UnlessMemory (CommandMeans s (Asm tie source)) (Err e)
+asm_second one two s tie source d e v w h (inl p) = inl (ap Err p)
+asm_second one two s tie source d e v w h (inr k) =
+    let is_tie : IsTie s tie d = tie_within one s v tie d h in
+    let wrong = wrong_within two s w source (RefusesSource d source) e k in
+    inr (inr ((d, is_tie), inl (wrong_as s source (RefusesSource d source) (Refuses s (Source tie source)) e (λ text bad. (d, is_tie, bad)) wrong)))
+
+pub dis_second : (one two s : Shelved) (tie hex : List ℕ) (d : Description) (e : Refusal) → Within one s → Within two s → IsTie one tie d
+    → (e ≡ NoMemory) ⊎ IsWrong two hex (RefusesHex hex) e → UnlessMemory (CommandMeans s (Dis tie hex)) (Err e)
+dis_second one two s tie hex d e v w h (inl p) = inl (ap Err p)
+dis_second one two s tie hex d e v w h (inr k) = inr (inr ((d, tie_within one s v tie d h), inl (wrong_within two s w hex (RefusesHex hex) e k)))
+
+-- the report, or want of memory
+pub asm_ok : (one two s : Shelved) (tie source image : List ℕ) (d : Description) (r : Verdict) → Within one s → Within two s → IsTie one tie d → IsSource two d source image
+    → Judges (λ (report : Report). report ≡ done (image_text image)) (λ refusal. ⊥) r → UnlessMemory (CommandMeans s (Asm tie source)) r
+asm_ok one two s tie source image d (Ok report) v w h k printed = inr (d, image, tie_within one s v tie d h, source_within two s w d source image k, printed)
+asm_ok one two s tie source image d (Err e) v w h k (inl p) = inl (ap Err p)
+asm_ok one two s tie source image d (Err e) v w h k (inr none) = absurd none
+
+pub dis_ok : (one two s : Shelved) (tie hex image : List ℕ) (d : Description) (r : Verdict) → Within one s → Within two s → IsTie one tie d → IsHex two hex image
+    → Judges (λ (report : Report). (text : List ℕ) × Lists d 0 image text × (report ≡ done text)) (λ refusal. ⊥) r → UnlessMemory (CommandMeans s (Dis tie hex)) r
+dis_ok one two s tie hex image d (Ok report) v w h k (text, lists, p) = inr (d, image, tie_within one s v tie d h, hex_within two s w hex image k, text, lists, p)
+dis_ok one two s tie hex image d (Err e) v w h k (inl p) = inl (ap Err p)
+dis_ok one two s tie hex image d (Err e) v w h k (inr none) = absurd none

@@ -3,9 +3,10 @@ use Rattle.std.proofs.Common.{◌≡◌, ◌⊎◌, List, ℕ, Result, Ok, Err, 
 use Rattle.tie_desc.specs.Description.{Description}
 use Rattle.tie_front.specs.Front.{IsDescriptionOf, IsAloneOf}
 use Rattle.hex_text.specs.Hexadecimal.{hex_bytes}
+use Rattle.xt_asm.specs.Assembly.{assembly}
 use Rattle.tie_top.specs.declared.refusal.Refusal.{Refusal}
 use Rattle.tie_top.specs.declared.refusal.Refusal.TheVariants.{NoMemory}
-use Rattle.tie_top.specs.Files.{Shelved, IsTextOf, IsTie, IsAlone, IsHex, RefusesTie, RefusesAlone, RefusesHex, IsWrong, ReadFails, IsTooLong, TextIsWrong}
+use Rattle.tie_top.specs.Files.{Shelved, IsTextOf, IsTie, IsAlone, IsHex, IsSource, RefusesTie, RefusesAlone, RefusesHex, RefusesSource, IsWrong, ReadFails, IsTooLong, TextIsWrong}
 use Rattle.tie_top.specs.Parts.{Judges}
 
 -- what is said of the text of a file is said of the file
@@ -30,6 +31,13 @@ pub hex_file : (s : Shelved) (name text : List ℕ) (r : Result (Vec ℕ Global)
     → Judges (λ image. IsHex s name image.items) (IsWrong s name (RefusesHex name)) r
 hex_file s name text r read h =
     file_of s name text (λ image. hex_bytes 65536 text ≡ Ok image.items) (λ image. IsHex s name image.items) (RefusesHex name) r read
+    (λ image is. record { text = text; read = read; is = is }) h
+
+pub source_file : (s : Shelved) (d : Description) (name text : List ℕ) (r : Result (Vec ℕ Global) Refusal)
+    → IsTextOf s name text → Judges (λ image. assembly d text ≡ Ok image.items) (RefusesSource d name text) r
+    → Judges (λ image. IsSource s d name image.items) (IsWrong s name (RefusesSource d name)) r
+source_file s d name text r read h =
+    file_of s name text (λ image. assembly d text ≡ Ok image.items) (λ image. IsSource s d name image.items) (RefusesSource d name) r read
     (λ image is. record { text = text; read = read; is = is }) h
 
 -- a file that isn't read is wrong, whatever it must be

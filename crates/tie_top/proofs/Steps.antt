@@ -4,7 +4,7 @@ use Rattle.tie_io.specs.Counts.{Rose}
 use Rattle.tie_io.specs.Reading.{IsFile, IsLonger}
 use Rattle.tie_desc.specs.Description.{Description}
 use Rattle.tie_top.specs.declared.refusal.Refusal.{Refusal}
-use Rattle.tie_top.specs.Files.{Shelved, shelved, IsTextOf, IsTie, IsAlone, IsHex, IsWrong, ReadFails, IsTooLong, TextIsWrong}
+use Rattle.tie_top.specs.Files.{Shelved, shelved, IsTextOf, IsTie, IsAlone, IsHex, IsSource, IsWrong, ReadFails, IsTooLong, TextIsWrong}
 
 -- a call within another: it sees the same files, and its counts lie between
 pub record Within (small big : Shelved) : Type 0 where
@@ -40,6 +40,15 @@ alone_within small big w name d h = record { text = h.text; read = text_within s
 
 pub hex_within : (small big : Shelved) → Within small big → (name image : List ℕ) → IsHex small name image → IsHex big name image
 hex_within small big w name image h = record { text = h.text; read = text_within small big w name h.text h.read; is = h.is }
+
+pub source_within : (small big : Shelved) → Within small big → (d : Description) (name image : List ℕ) → IsSource small d name image → IsSource big d name image
+source_within small big w d name image h = record { text = h.text; read = text_within small big w name h.text h.read; is = h.is }
+
+-- a wrong file, by what refuses its text
+pub wrong_as : (s : Shelved) (name : List ℕ) (P Q : List ℕ → Refusal → Type 0) (e : Refusal) → ((text : List ℕ) → P text e → Q text e) → IsWrong s name P e → IsWrong s name Q e
+wrong_as s name P Q e of (ReadFails p rose) = ReadFails p rose
+wrong_as s name P Q e of (IsTooLong p front longer) = IsTooLong p front longer
+wrong_as s name P Q e of (TextIsWrong text read because) = TextIsWrong text read (of text because)
 
 pub wrong_within : (small big : Shelved) → Within small big → (name : List ℕ) (P : List ℕ → Refusal → Type 0) (e : Refusal) → IsWrong small name P e → IsWrong big name P e
 wrong_within small big w name P e (ReadFails p rose) = ReadFails p (Rose-wider _ _ _ _ (w.before name) rose (w.after name))

@@ -5,16 +5,22 @@ use Rattle.tie_io.specs.Reading.{IsLonger}
 use Rattle.tie_io.specs.Writing.{Grew, GrewWithin}
 use Rattle.hex_text.specs.declared.hexadecimal.HexRule.{HexRule}
 use Rattle.hex_text.specs.Hexadecimal.{hex_bytes}
+use Rattle.tie_desc.specs.Description.{Description}
 use Rattle.tie_front.specs.declared.refusal.TieRule.{TieRule}
+use Rattle.tie_front.specs.Front.{IsDescriptionOf}
+use Rattle.asm_lines.specs.declared.refusal.AsmRule.{AsmRule}
+use Rattle.asm_lines.specs.Tokens.{Fault}
+use Rattle.xt_asm.specs.Assembly.{assembly}
+use Rattle.asm_law.proofs.SameDescription.{one_image}
 use Rattle.tie_front.proofs.Laws.{one_refusal, not_refused, one_refusal_alone, not_refused_alone}
-use Rattle.tie_words.specs.Words.{Meant, Check, Exec, ExecTie, Accepts, WrongAt}
+use Rattle.tie_words.specs.Words.{Meant, Check, Asm, Dis, Exec, ExecTie, Accepts, WrongAt}
 use Rattle.tie_words.proofs.WordLemmas.{one_command, one_place}
 use Rattle.tie_top.specs.declared.status.Status.{Status}
 use Rattle.tie_top.specs.declared.status.Status.TheVariants as statuses
 use Rattle.tie_top.specs.declared.refusal.Refusal.{Refusal}
-use Rattle.tie_top.specs.declared.refusal.Refusal.TheVariants.{Usage, ReadFault, TooLong, TieRefused, HexRefused, NoMemory}
+use Rattle.tie_top.specs.declared.refusal.Refusal.TheVariants.{Usage, ReadFault, TooLong, TieRefused, AsmRefused, HexRefused, NoMemory}
 use Rattle.tie_top.specs.declared.report.Report.{Report}
-use Rattle.tie_top.specs.Files.{Shelved, IsTextOf, File, Tie, Alone, Hex, files, name_of, IsAccepted, Refuses, IsWrong, ReadFails, IsTooLong, TextIsWrong, FirstWrong}
+use Rattle.tie_top.specs.Files.{Shelved, IsTextOf, IsTie, File, Tie, Alone, Hex, Source, files, name_of, IsAccepted, Refuses, IsWrong, ReadFails, IsTooLong, TextIsWrong, FirstWrong}
 use Rattle.tie_top.specs.Meaning.{Yields}
 use Rattle.tie_top.specs.Delivery.{Sunk, Delivered, Reported, Wanted}
 use Rattle.tie_top.specs.Answers.{Call, IsRight, AreTold, FailsToRead, MustRefuse, AreAccepted, Shows, NoneRose, IsComplete}
@@ -82,46 +88,79 @@ not_longer s name told a front e p q =
     let short : length told ≤ 1048576 = rw same p.0 in
     omega arith
 
+-- a file is told, and of a source its TIE text too
+abbrev IsReady : Shelved → File → Type 0
+IsReady s (Tie name) = IsTold s name
+IsReady s (Alone name) = IsTold s name
+IsReady s (Hex name) = IsTold s name
+IsReady s (Source tie name) = IsTold s tie × IsTold s name
+
+told_of : (s : Shelved) (file : File) → IsReady s file → IsTold s (name_of file)
+told_of s (Tie name) ready = ready
+told_of s (Alone name) ready = ready
+told_of s (Hex name) ready = ready
+told_of s (Source tie name) ready = ready.1
+
+-- a source has one image, or one fault, by the description of its TIE text
+one_source : (s : Shelved) (tie : List ℕ) (d e : Description) (source : List ℕ) → IsTold s tie → IsTie s tie d → IsTie s tie e → assembly d source ≡ assembly e source
+one_source s tie d e source told h k =
+    let same : h.text ≡ k.text = same_text s tie told.0 h.text k.text told.1 h.read k.read in
+    one_image k.text d e (subst (λ t. IsDescriptionOf t d) same h.is) k.is source
+
+not_both : (image : List ℕ) (fault : Fault) (x : Result (List ℕ) Fault) → x ≡ Ok image → x ≡ Err fault → ⊥
+not_both image fault x p q = let both : Ok image ≡ Err fault = sym p ∙ q in absurd cc
+
 -- what a file accepted has: its text isn't refused
-accepted_text : (s : Shelved) (file : File) → IsAccepted s file → (text : List ℕ) × IsTextOf s (name_of file) text × ((e : Refusal) → ¬ Refuses file text e)
-accepted_text s (Tie name) (d, h) = (h.text, h.read, (λ e. λ (rule, place, bad, p). not_refused h.text d rule place h.is bad))
-accepted_text s (Alone name) (d, h) = (h.text, h.read, (λ e. λ (rule, place, bad, p). not_refused_alone h.text d rule place h.is bad))
-accepted_text s (Hex name) (image, h) = (h.text, h.read, (λ e. λ (rule, place, bad, p). let both : Ok image ≡ Err (rule, place) = sym h.is ∙ bad in absurd cc))
+accepted_text : (s : Shelved) (file : File) → IsReady s file → IsAccepted s file → (text : List ℕ) × IsTextOf s (name_of file) text × ((e : Refusal) → ¬ Refuses s file text e)
+accepted_text s (Tie name) ready (d, h) = (h.text, h.read, (λ e. λ (rule, place, bad, p). not_refused h.text d rule place h.is bad))
+accepted_text s (Alone name) ready (d, h) = (h.text, h.read, (λ e. λ (rule, place, bad, p). not_refused_alone h.text d rule place h.is bad))
+accepted_text s (Hex name) ready (image, h) = (h.text, h.read, (λ e. λ (rule, place, bad, p). let both : Ok image ≡ Err (rule, place) = sym h.is ∙ bad in absurd cc))
+accepted_text s (Source tie name) ready (d, image, h, k) =
+    (k.text, k.read, (λ e. λ (f, g, (rule, line, column, bad, p)). not_both image (rule, line, column) (assembly d k.text) k.is (one_source s tie d f k.text ready.0 h g ∙ bad)))
 
 -- a file that is told and accepted is wrong only where its read fails
-accepted_wrong : (s : Shelved) (file : File) (e : Refusal) → IsTold s (name_of file) → IsAccepted s file → IsWrong s (name_of file) (Refuses file) e → IsReadFault e
-accepted_wrong s file e told a (ReadFails p rose) = (name_of file, p)
-accepted_wrong s file e told a (IsTooLong p front longer) =
-    let h = accepted_text s file a in absurd (not_longer s (name_of file) told.0 h.0 front told.1 h.1 longer)
-accepted_wrong s file e told a (TextIsWrong text read bad) =
-    let h = accepted_text s file a in
+accepted_wrong : (s : Shelved) (file : File) (e : Refusal) → IsReady s file → IsAccepted s file → IsWrong s (name_of file) (Refuses s file) e → IsReadFault e
+accepted_wrong s file e ready a (ReadFails p rose) = (name_of file, p)
+accepted_wrong s file e ready a (IsTooLong p front longer) =
+    let told = told_of s file ready in
+    let h = accepted_text s file ready a in absurd (not_longer s (name_of file) told.0 h.0 front told.1 h.1 longer)
+accepted_wrong s file e ready a (TextIsWrong text read bad) =
+    let told = told_of s file ready in
+    let h = accepted_text s file ready a in
     let same : text ≡ h.0 = same_text s (name_of file) told.0 text h.0 told.1 read h.1 in
-    absurd (h.2 e (subst (λ t. Refuses file t e) same bad))
+    absurd (h.2 e (subst (λ t. Refuses s file t e) same bad))
 
 -- a text is refused in one way
 same_fault : (a b : HexRule × ℕ) (x : Result (List ℕ) (HexRule × ℕ)) → x ≡ Err a → x ≡ Err b → a ≡ b
 same_fault a b x p q = cc
 
-one_way : (file : File) (text : List ℕ) (e f : Refusal) → Refuses file text e → Refuses file text f → e ≡ f
-one_way (Tie name) text e f (r, p, a, is) (s, q, b, also) =
+same_asm : (a b : Fault) (x : Result (List ℕ) Fault) → x ≡ Err a → x ≡ Err b → a ≡ b
+same_asm a b x p q = cc
+
+one_way : (s : Shelved) (file : File) (text : List ℕ) (e f : Refusal) → IsReady s file → Refuses s file text e → Refuses s file text f → e ≡ f
+one_way shelf (Tie name) text e f ready (r, p, a, is) (s, q, b, also) =
     let one = one_refusal text r s p q a b in is ∙ ap (λ z. TieRefused name z p) one.rule ∙ ap (λ z. TieRefused name s z) one.place ∙ sym also
-one_way (Alone name) text e f (r, p, a, is) (s, q, b, also) =
+one_way shelf (Alone name) text e f ready (r, p, a, is) (s, q, b, also) =
     let one = one_refusal_alone text r s p q a b in is ∙ ap (λ z. TieRefused name z p) one.rule ∙ ap (λ z. TieRefused name s z) one.place ∙ sym also
-one_way (Hex name) text e f (r, p, a, is) (s, q, b, also) =
+one_way shelf (Hex name) text e f ready (r, p, a, is) (s, q, b, also) =
     let one : (r, p) ≡ (s, q) = same_fault (r, p) (s, q) (hex_bytes 65536 text) a b in
     is ∙ ap (λ (z : HexRule × ℕ). HexRefused name z.0 z.1) one ∙ sym also
+one_way shelf (Source tie name) text e f ready (d, h, (r, l, k, a, is)) (d2, h2, (r2, l2, k2, b, also)) =
+    let one : (r, l, k) ≡ (r2, l2, k2) = same_asm (r, l, k) (r2, l2, k2) (assembly d text) a (one_source shelf tie d d2 text ready.0 h h2 ∙ b) in
+    is ∙ ap (λ (z : Fault). AsmRefused name z.0 z.1 z.2) one ∙ sym also
 
 -- two refusals of a told file are one, or one is a fault of reading
-one_wrong : (s : Shelved) (file : File) (e f : Refusal) → IsTold s (name_of file) → IsWrong s (name_of file) (Refuses file) e → IsWrong s (name_of file) (Refuses file) f
+one_wrong : (s : Shelved) (file : File) (e f : Refusal) → IsReady s file → IsWrong s (name_of file) (Refuses s file) e → IsWrong s (name_of file) (Refuses s file) f
     → (e ≡ f) ⊎ IsReadFault e ⊎ IsReadFault f
-one_wrong s file e f told (ReadFails p rose) b = inr (inl (name_of file, p))
-one_wrong s file e f told (IsTooLong p front longer) (ReadFails q rose) = inr (inr (name_of file, q))
-one_wrong s file e f told (IsTooLong p front longer) (IsTooLong q other also) = inl (p ∙ sym q)
-one_wrong s file e f told (IsTooLong p front longer) (TextIsWrong text read bad) = absurd (not_longer s (name_of file) told.0 text front told.1 read longer)
-one_wrong s file e f told (TextIsWrong text read bad) (ReadFails q rose) = inr (inr (name_of file, q))
-one_wrong s file e f told (TextIsWrong text read bad) (IsTooLong q other also) = absurd (not_longer s (name_of file) told.0 text other told.1 read also)
-one_wrong s file e f told (TextIsWrong a read bad) (TextIsWrong b also nor) =
-    inl (one_way file a e f bad (subst (λ t. Refuses file t f) (same_text s (name_of file) told.0 b a told.1 also read) nor))
+one_wrong s file e f ready (ReadFails p rose) b = inr (inl (name_of file, p))
+one_wrong s file e f ready (IsTooLong p front longer) (ReadFails q rose) = inr (inr (name_of file, q))
+one_wrong s file e f ready (IsTooLong p front longer) (IsTooLong q other also) = inl (p ∙ sym q)
+one_wrong s file e f ready (IsTooLong p front longer) (TextIsWrong text read bad) = let told = told_of s file ready in absurd (not_longer s (name_of file) told.0 text front told.1 read longer)
+one_wrong s file e f ready (TextIsWrong text read bad) (ReadFails q rose) = inr (inr (name_of file, q))
+one_wrong s file e f ready (TextIsWrong text read bad) (IsTooLong q other also) = let told = told_of s file ready in absurd (not_longer s (name_of file) told.0 text other told.1 read also)
+one_wrong s file e f ready (TextIsWrong a read bad) (TextIsWrong b also nor) =
+    let told = told_of s file ready in
+    inl (one_way s file a e f ready bad (subst (λ t. Refuses s file t f) (same_text s (name_of file) told.0 b a told.1 also read) nor))
 
 -- ---- all files
 
@@ -129,7 +168,18 @@ one_wrong s file e f told (TextIsWrong a read bad) (TextIsWrong b also nor) =
 abbrev IsSettled : Refusal → Type 0
 IsSettled refusal = IsReadFault refusal → ⊥
 
-one_first : (s : Shelved) (fs : List File) (e f : Refusal) → AreTold s fs → IsSettled e → FirstWrong s fs e → FirstWrong s fs f → (e ≡ f) ⊎ IsReadFault f
+abbrev AreReady : Shelved → List File → Type 0
+AreReady s [] = Unit {0}
+AreReady s (file ∷ fs) = IsReady s file × AreReady s fs
+
+ready_of : (s : Shelved) (command : Meant) → AreTold s (files command) → AreReady s (files command)
+ready_of s (Check tie) told = told
+ready_of s (Asm tie source) told = (told.0, ((told.0, told.1.0), tt))
+ready_of s (Dis tie hex) told = told
+ready_of s (Exec hex) told = told
+ready_of s (ExecTie hex tie) told = told
+
+one_first : (s : Shelved) (fs : List File) (e f : Refusal) → AreReady s fs → IsSettled e → FirstWrong s fs e → FirstWrong s fs f → (e ≡ f) ⊎ IsReadFault f
 one_first s [] e f told settled a b = absurd a
 one_first s (file ∷ fs) e f told settled (inl a) (inl b) = settle (one_wrong s file e f told.0 a b)
   where
@@ -142,7 +192,7 @@ one_first s (file ∷ fs) e f told settled (inr a) (inl b) = inr (accepted_wrong
 one_first s (file ∷ fs) e f told settled (inr a) (inr b) = one_first s fs e f told.1 settled a.1 b.1
 
 -- accepted files have no refusal but faults of reading
-none_first : (s : Shelved) (fs : List File) (e : Refusal) → AreTold s fs → AreAccepted s fs → FirstWrong s fs e → IsReadFault e
+none_first : (s : Shelved) (fs : List File) (e : Refusal) → AreReady s fs → AreAccepted s fs → FirstWrong s fs e → IsReadFault e
 none_first s [] e told a h = absurd h
 none_first s (file ∷ fs) e told a (inl h) = accepted_wrong s file e told.0 a.0 h
 none_first s (file ∷ fs) e told a (inr h) = none_first s fs e told.1 a.1 h.1
@@ -150,6 +200,8 @@ none_first s (file ∷ fs) e told a (inr h) = none_first s fs e told.1 a.1 h.1
 -- where there is a report, all files are accepted
 yields_accepted : (s : Shelved) (command : Meant) (report : Report) → Yields s command report → AreAccepted s (files command)
 yields_accepted s (Check tie) report (d, h, p) = ((d, h), tt)
+yields_accepted s (Asm tie source) report (d, image, h, k, p) = ((d, h), ((d, image, h, k), tt))
+yields_accepted s (Dis tie hex) report (d, image, h, k, text, l, p) = ((d, h), ((image, k), tt))
 yields_accepted s (Exec hex) report (image, h, r) = ((image, h), tt)
 yields_accepted s (ExecTie hex tie) report (image, d, h, k, r) = ((image, h), ((d, k), tt))
 
@@ -166,8 +218,8 @@ must_refuse c r refusal settled command a told first = at (answered c r command 
     by other h d (inr p) = inr (fails c command other p h d)
 
     at : Answered c command → Delivered c.out c.err (Err refusal) c.status ⊎ FailsToRead c command
-    at (Reports report y d) = absurd (settled (none_first c.shelf (files command) refusal told (yields_accepted c.shelf command report y) first))
-    at (Refusing other h d) = by other h d (one_first c.shelf (files command) refusal other told settled first h)
+    at (Reports report y d) = absurd (settled (none_first c.shelf (files command) refusal (ready_of c.shelf command told) (yields_accepted c.shelf command report y) first))
+    at (Refusing other h d) = by other h d (one_first c.shelf (files command) refusal other (ready_of c.shelf command told) settled first h)
     at (Wants out) = inl (ran_out_delivers c refusal out)
 
 pub too_long_where : (c : Call) → IsRight c → (name : List ℕ) → MustRefuse c (TooLong name)
@@ -179,6 +231,9 @@ tie_refused_where c r name rule place = must_refuse c r (TieRefused name rule pl
 pub text_refused_where : (c : Call) → IsRight c → (name : List ℕ) (rule : HexRule) (place : ℕ) → MustRefuse c (HexRefused name rule place)
 text_refused_where c r name rule place = must_refuse c r (HexRefused name rule place) (λ (n, p). absurd cc)
 
+pub asm_refused_where : (c : Call) → IsRight c → (name : List ℕ) (rule : AsmRule) (line column : ℕ) → MustRefuse c (AsmRefused name rule line column)
+asm_refused_where c r name rule line column = must_refuse c r (AsmRefused name rule line column) (λ (n, p). absurd cc)
+
 pub report_where : (c : Call) (status : Status) → IsRight c → (command : Meant) → Accepts c.words command → AreTold c.shelf (files command) → AreAccepted c.shelf (files command)
     → ((report : Report) → Yields c.shelf command report → report.status ≡ status)
     → ((report : Report) × (report.status ≡ status) × Yields c.shelf command report × Delivered c.out c.err (Ok report) c.status)
@@ -189,7 +244,7 @@ report_where c status r command a told fine all = at (answered c r command a)
         → ((report : Report) × (report.status ≡ status) × Yields c.shelf command report × Delivered c.out c.err (Ok report) c.status)
         ⊎ FailsToRead c command ⊎ (c.status ≡ statuses.NoMemory)
     at (Reports report y d) = inl (report, all report y, y, d)
-    at (Refusing other h d) = inr (inl (fails c command other (none_first c.shelf (files command) other told fine h) h d))
+    at (Refusing other h d) = inr (inl (fails c command other (none_first c.shelf (files command) other (ready_of c.shelf command told) fine h) h d))
     at (Wants out) = inr (inr out.status)
 
 -- no read failed, so no fault of reading is the answer
@@ -200,6 +255,7 @@ none_failed s (file ∷ fs) name none (inl (IsTooLong p front longer)) = absurd 
 none_failed s (Tie n ∷ fs) name none (inl (TextIsWrong text read (rule, place, h, p))) = absurd cc
 none_failed s (Alone n ∷ fs) name none (inl (TextIsWrong text read (rule, place, h, p))) = absurd cc
 none_failed s (Hex n ∷ fs) name none (inl (TextIsWrong text read (rule, place, h, p))) = absurd cc
+none_failed s (Source tie n ∷ fs) name none (inl (TextIsWrong text read (d, h, (rule, line, column, k, p)))) = absurd cc
 none_failed s (file ∷ fs) name none (inr h) = none_failed s fs name none.1 h.1
 
 pub complete : (c : Call) → IsRight c → IsComplete c
@@ -213,6 +269,6 @@ complete c r command a told fine steady sound = at (answered c r command a)
     at : Answered c command → ((report : Report) × Shows c command report) ⊎ (c.status ≡ statuses.NoMemory)
     at (Reports report y d) = reports report y d
     at (Refusing other h d) =
-        let fault = none_first c.shelf (files command) other told fine h in
+        let fault = none_first c.shelf (files command) other (ready_of c.shelf command told) fine h in
         absurd (none_failed c.shelf (files command) fault.0 steady (subst (FirstWrong c.shelf (files command)) fault.1 h))
     at (Wants out) = inr out.status

@@ -4,11 +4,12 @@ use Rattle.std.specs.declared.string.String.{String}
 use Rattle.tie_io.specs.Counts.{Rose}
 use Rattle.hex_text.specs.declared.hexadecimal.HexRule.{HexRule}
 use Rattle.tie_front.specs.declared.refusal.TieRule.{TieRule}
+use Rattle.asm_lines.specs.declared.refusal.AsmRule.{AsmRule}
 use Rattle.tie_words.specs.Words.{Meant, Accepts, WrongAt}
 use Rattle.tie_top.specs.declared.status.Status.{Status}
 use Rattle.tie_top.specs.declared.status.Status.TheVariants as statuses
 use Rattle.tie_top.specs.declared.refusal.Refusal.{Refusal}
-use Rattle.tie_top.specs.declared.refusal.Refusal.TheVariants.{Usage, ReadFault, TooLong, TieRefused, HexRefused}
+use Rattle.tie_top.specs.declared.refusal.Refusal.TheVariants.{Usage, ReadFault, TooLong, TieRefused, AsmRefused, HexRefused}
 use Rattle.tie_top.specs.declared.report.Report.{Report}
 use Rattle.tie_top.specs.Printing.{line_of}
 use Rattle.tie_top.specs.Files.{Shelved, shelved, File, files, name_of, IsAccepted, FirstWrong}
@@ -92,6 +93,12 @@ TextRefusedIsRight c =
     (c.status ≡ statuses.TextRefused → (name : List ℕ) × (rule : HexRule) × (place : ℕ) × IsRefusedSo c (HexRefused name rule place))
     × ((name : List ℕ) (rule : HexRule) (place : ℕ) → MustRefuse c (HexRefused name rule place))
 
+-- AsmRefused: exactly where a source has no image by the description of its TIE text
+abbrev pub AsmRefusedIsRight : Call → Type 0
+AsmRefusedIsRight c =
+    (c.status ≡ statuses.AsmRefused → (name : List ℕ) × (rule : AsmRule) × (line : ℕ) × (column : ℕ) × IsRefusedSo c (AsmRefused name rule line column))
+    × ((name : List ℕ) (rule : AsmRule) (line column : ℕ) → MustRefuse c (AsmRefused name rule line column))
+
 -- ---- reports
 
 -- all files are accepted
@@ -135,7 +142,6 @@ WriteFaultIsRight c =
 
 -- no other status comes
 abbrev pub IsGiven : Status → Type 0
-IsGiven statuses.AsmRefused = ⊥
 IsGiven statuses.NetRefused = ⊥
 IsGiven statuses.Blocked = ⊥
 IsGiven others = Unit {0}

@@ -6,15 +6,16 @@ use Rattle.tie_desc.specs.declared.bundle.Kit.{Kit}
 use Rattle.xt_state.specs.State.{State}
 use Rattle.xt_exec.specs.First.{first_state}
 use Rattle.xt_exec.specs.Run.{Stopped}
+use Rattle.xt_dis.specs.Listing.{Lists}
 use Rattle.tie_report.specs.Report.{report_text}
-use Rattle.tie_lines.specs.Lines.{check_text}
-use Rattle.tie_words.specs.Words.{Meant, Check, Exec, ExecTie, Accepts, WrongAt}
+use Rattle.tie_lines.specs.Lines.{check_text, image_text}
+use Rattle.tie_words.specs.Words.{Meant, Check, Asm, Dis, Exec, ExecTie, Accepts, WrongAt}
 use Rattle.tie_top.specs.declared.status.Status.TheVariants.{Done}
 use Rattle.tie_top.specs.declared.refusal.Refusal.{Refusal}
 use Rattle.tie_top.specs.declared.refusal.Refusal.TheVariants.{Usage, NoMemory}
 use Rattle.tie_top.specs.declared.report.Report.{Report}
 use Rattle.tie_top.specs.Printing.{end_status}
-use Rattle.tie_top.specs.Files.{Shelved, IsTie, IsAlone, IsHex, files, FirstWrong}
+use Rattle.tie_top.specs.Files.{Shelved, IsTie, IsAlone, IsHex, IsSource, files, FirstWrong}
 
 -- a verdict: the report, or the refusal
 abbrev pub Verdict : Type 0
@@ -44,6 +45,9 @@ Reports d image report = (retired : ℕ) × (end : State) × Stops d image retir
 -- the report of a command all of whose files are accepted
 abbrev pub Yields : Shelved → Meant → Report → Type 0
 Yields s (Check tie) report = (d : Description) × IsTie s tie d × (report ≡ done (check_text d))
+Yields s (Asm tie source) report = (d : Description) × (image : List ℕ) × IsTie s tie d × IsSource s d source image × (report ≡ done (image_text image))
+Yields s (Dis tie hex) report =
+    (d : Description) × (image : List ℕ) × IsTie s tie d × IsHex s hex image × (text : List ℕ) × Lists d 0 image text × (report ≡ done text)
 Yields s (Exec hex) report = (image : List ℕ) × IsHex s hex image × Reports bare image report
 Yields s (ExecTie hex tie) report = (image : List ℕ) × (d : Description) × IsHex s hex image × IsAlone s tie d × Reports d image report
 

@@ -57,7 +57,8 @@ pub fn exec_tie<S: Shelf>(
     run_image(alloc, desc, &image)
 }
 
-fn done(text: Vec<u8>) -> Report
+/// The report of a command that runs nothing.
+pub fn done(text: Vec<u8>) -> Report
     ensures { result ≡ done text.items }
 {
     Report {

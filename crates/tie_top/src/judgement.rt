@@ -4,6 +4,7 @@ ghost use Rattle.tie_top.specs.Meaning.{UnlessMemory, CommandMeans, Means};
 ghost use Rattle.tie_words.specs.Reading.{seen};
 
 use crate::commands::{check, exec, exec_tie};
+use crate::images::{asm, dis};
 use crate::refusal::Refusal;
 use crate::report::Report;
 use std::alloc::Global;
@@ -27,6 +28,8 @@ fn obey<S: Shelf>(alloc: Global, command: Command<'_>, shelf: &mut S) -> Result<
 {
     match command {
         Command::Check { tie } => check(alloc, tie, shelf),
+        Command::Asm { tie, source } => asm(alloc, tie, source, shelf),
+        Command::Dis { tie, hex } => dis(alloc, tie, hex, shelf),
         Command::Exec { hex } => exec(alloc, hex, shelf),
         Command::ExecTie { hex, tie } => exec_tie(alloc, hex, tie, shelf),
     }

@@ -7,6 +7,7 @@
 mod commands;
 mod delivery;
 mod gate;
+mod images;
 mod judgement;
 mod lines;
 mod reading;

@@ -1,7 +1,8 @@
 ghost use Rattle.std.specs.Prelude.{◌≡◌, ◌<◌, IfOk, length, string_bytes};
-ghost use Rattle.tie_top.specs.Printing.{line_of, hex_rule_word};
+ghost use Rattle.tie_top.specs.Printing.{line_of, hex_rule_word, asm_rule_word};
 
 use crate::refusal::Refusal;
+use asm_lines::AsmRule;
 use hex_text::HexRule;
 use std::alloc::{AllocError, Global};
 use tie_front::{TieRule, rule_name};
@@ -24,6 +25,12 @@ pub fn line_of(alloc: Global, refusal: &Refusal) -> Result<String, AllocError>
         Refusal::TieRefused { name, rule, place } => {
             tie_line(alloc, name.as_str(), *rule, *place)
         }
+        Refusal::AsmRefused {
+            name,
+            rule,
+            line,
+            column,
+        } => asm_line(alloc, name.as_str(), *rule, *line, *column),
         Refusal::HexRefused { name, rule, place } => {
             hex_line(alloc, name.as_str(), *rule, *place)
         }
@@ -38,6 +45,22 @@ fn tie_line(alloc: Global, name: &str, rule: TieRule, place: u32) -> Result<Stri
     let mut line = format!(in alloc; "tie refused: {name}: ")?;
     line.push_str(rule)?;
     write!(line, " at {place}\n")?;
+    Ok(line)
+}
+
+fn asm_line(
+    alloc: Global,
+    name: &str,
+    rule: AsmRule,
+    at_line: u32,
+    column: u32,
+) -> Result<String, AllocError>
+    ensures { IfOk result (λ line. string_bytes line ≡ line_of (Refusal.AsmRefused name.now rule at_line column)) }
+{
+    let rule = asm_rule_word(rule);
+    let mut line = format!(in alloc; "asm refused: {name}: ")?;
+    line.push_str(rule)?;
+    write!(line, " at {at_line}:{column}\n")?;
     Ok(line)
 }
 
@@ -58,5 +81,25 @@ fn hex_rule_word(rule: HexRule) -> &'static str
         HexRule::BadHex => "BadHex",
         HexRule::OddHex => "OddHex",
         HexRule::LongHex => "LongHex",
+    }
+}
+
+fn asm_rule_word(rule: AsmRule) -> &'static str
+    ensures { result.now ≡ asm_rule_word rule }
+{
+    match rule {
+        AsmRule::BadToken => "BadToken",
+        AsmRule::Syntax => "Syntax",
+        AsmRule::UnknownMnemonic => "UnknownMnemonic",
+        AsmRule::OperandCount => "OperandCount",
+        AsmRule::DoubledLabel => "DoubledLabel",
+        AsmRule::OperandKind => "OperandKind",
+        AsmRule::OperandRange => "OperandRange",
+        AsmRule::UnknownLabel => "UnknownLabel",
+        AsmRule::SlotCount => "SlotCount",
+        AsmRule::SlotOpcode => "SlotOpcode",
+        AsmRule::SameDest => "SameDest",
+        AsmRule::TooLong => "TooLong",
+        AsmRule::Reach => "Reach",
     }
 }

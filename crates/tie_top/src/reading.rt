@@ -1,12 +1,12 @@
 //! A file of a command, read and judged.
 
 ghost use Rattle.std.specs.Prelude.{◌≡◌, ◌≤◌, List, ℕ, length, IfOk};
-ghost use Rattle.tie_top.specs.Files.{shelved, IsTextOf, IsTie, IsAlone, IsHex, RefusesTie, RefusesAlone, RefusesHex, IsWrong};
+ghost use Rattle.tie_top.specs.Files.{shelved, IsTextOf, IsTie, IsAlone, IsHex, IsSource, RefusesTie, RefusesAlone, RefusesHex, RefusesSource, IsWrong};
 ghost use Rattle.tie_top.specs.Parts.{Judges};
 
 use crate::refusal::Refusal;
 use crate::text::Text;
-use crate::texts::{alone_of, hex_of, tie_of};
+use crate::texts::{alone_of, hex_of, source_of, tie_of};
 use std::alloc::Global;
 use tie_desc::Desc;
 use tie_io::{ReadFault, Shelf};
@@ -64,4 +64,20 @@ pub fn read_hex_file<S: Shelf>(alloc: Global, name: &str, shelf: &mut S) -> Resu
 {
     let text = read_file(alloc, name, shelf)?;
     hex_of(alloc, name, &text)
+}
+
+/// The image of the source in a file, by a description.
+pub fn read_source_file<S: Shelf>(
+    alloc: Global,
+    name: &str,
+    desc: &Desc,
+    shelf: &mut S,
+) -> Result<Vec<u8>, Refusal>
+    ensures judged { Judges (λ image. IsSource (shelved S.holds S.faults shelf.old shelf.new) desc.now name.now image.items)
+        (IsWrong (shelved S.holds S.faults shelf.old shelf.new) name.now (RefusesSource desc.now name.now)) result }
+    ensures same { (other : List ℕ) → S.holds shelf.new other ≡ S.holds shelf.old other }
+    ensures later { (other : List ℕ) → S.faults shelf.old other ≤ S.faults shelf.new other }
+{
+    let text = read_file(alloc, name, shelf)?;
+    source_of(alloc, name, desc, &text)
 }

@@ -3,6 +3,7 @@ ghost use Rattle.tie_top.specs.declared.refusal.Refusal.TheVariants.{NoMemory};
 
 use crate::Status;
 use crate::text::Text;
+use asm_lines::AsmRule;
 use hex_text::HexRule;
 use std::alloc::{AllocError, AllocFailed};
 use tie_front::TieRule;
@@ -23,6 +24,12 @@ pub enum Refusal {
         name: Text,
         rule: TieRule,
         place: u32,
+    },
+    AsmRefused {
+        name: Text,
+        rule: AsmRule,
+        line: u32,
+        column: u32,
     },
     HexRefused {
         name: Text,
@@ -63,6 +70,12 @@ impl Refusal {
                 rule: _,
                 place: _,
             } => Status::TieRefused,
+            Refusal::AsmRefused {
+                name: _,
+                rule: _,
+                line: _,
+                column: _,
+            } => Status::AsmRefused,
             Refusal::HexRefused {
                 name: _,
                 rule: _,

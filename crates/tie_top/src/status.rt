@@ -13,7 +13,7 @@ pub enum Status {
     TooLong,
     /// A TIE text is not lexed, not parsed or breaks a rule.
     TieRefused,
-    /// A source has no image. No command gives it yet.
+    /// A source has no image.
     AsmRefused,
     /// A network file is refused. No command gives it yet.
     NetRefused,

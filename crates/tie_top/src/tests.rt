@@ -62,6 +62,10 @@ const RUN_WITH: &[&str] = &["exec", "p", "t"];
 
 const CHECK: &[&str] = &["check", "t"];
 
+const ASM: &[&str] = &["asm", "t", "p"];
+
+const DIS: &[&str] = &["dis", "t", "p"];
+
 const ADDING: &str = "22 A0 05 32 AF FF 30 42 06 00 51 00";
 
 const MYADD: &str = "operation MYADD {out AR r, in AR a, in AR b} {} {assign r = a + b;}";
@@ -72,7 +76,17 @@ const LATE_USE: &str =
 const COUNTER: &str =
     "state ACC 128 128'hFFFFFFFFFFFFFFFFFFFFFFFFFFFFFFFF\noperation INC {} {inout ACC} {assign ACC = ACC + 128'd1;}";
 
-const CASES: [Case; 24] = [
+// Two moves side by side in one bundle.
+const PAIR: &str =
+    "operation MOVX {out AR d, in AR s} {} {assign d = s;}\noperation MOVY {out AR d, in AR s} {} {assign d = s;}\nformat F 32 {f0, f1}\nslot_opcodes f0 {MOVX}\nslot_opcodes f1 {MOVY}";
+
+const SWAP: &str = "22 A0 05 32 AF FF 0E 32 23 00 00 51 00";
+
+const SWAP_SOURCE: &str = "MOVI a2, 5\nMOVI a3, -1\nF { MOVX a2, a3 ; MOVY a3, a2 }\nSIMCALL\n";
+
+const QUEUED: &str = "state S 8 queue Q 8 in";
+
+const CASES: [Case; 33] = [
     Case {
         text: FIVE,
         tie: "",
@@ -264,7 +278,7 @@ const CASES: [Case; 24] = [
     },
     Case {
         text: FIVE,
-        tie: "state S 8 queue Q 8 in",
+        tie: QUEUED,
         words: RUN_WITH,
         faults: NO_FAULTS,
         status: Status::TieRefused,
@@ -288,6 +302,87 @@ const CASES: [Case; 24] = [
         status: Status::ReadFault,
         out: "",
         err: "read fault: t\n",
+    },
+    Case {
+        text: SWAP_SOURCE,
+        tie: PAIR,
+        words: ASM,
+        faults: NO_FAULTS,
+        status: Status::Done,
+        out: "22 A0 05 32 AF FF 0E 32 23 00 00 51 00\n",
+        err: "",
+    },
+    Case {
+        text: SWAP,
+        tie: PAIR,
+        words: RUN_WITH,
+        faults: NO_FAULTS,
+        status: Status::Done,
+        out: "core main retired 4 halted pc 0000000D\n  sar 0\n  a2 FFFFFFFF\n  a3 00000005\nend halted\n",
+        err: "",
+    },
+    Case {
+        text: SWAP,
+        tie: PAIR,
+        words: DIS,
+        faults: NO_FAULTS,
+        status: Status::Done,
+        out: SWAP_SOURCE,
+        err: "",
+    },
+    Case {
+        text: "F { MOVX a2, a3 ; MOVY a2, a3 }",
+        tie: PAIR,
+        words: ASM,
+        faults: NO_FAULTS,
+        status: Status::AsmRefused,
+        out: "",
+        err: "asm refused: p: SameDest at 1:24\n",
+    },
+    Case {
+        text: "ADDI a2, a2, 200",
+        tie: "",
+        words: ASM,
+        faults: NO_FAULTS,
+        status: Status::AsmRefused,
+        out: "",
+        err: "asm refused: p: OperandRange at 1:14\n",
+    },
+    Case {
+        text: "22 A0 05 FF",
+        tie: "",
+        words: DIS,
+        faults: NO_FAULTS,
+        status: Status::Done,
+        out: "MOVI a2, 5\n.byte 255\n",
+        err: "",
+    },
+    Case {
+        text: "ADDI a2, a2, 200",
+        tie: LATE_USE,
+        words: ASM,
+        faults: NO_FAULTS,
+        status: Status::TieRefused,
+        out: "",
+        err: "tie refused: t: ScheduleOrder at 108\n",
+    },
+    Case {
+        text: "",
+        tie: QUEUED,
+        words: ASM,
+        faults: NO_FAULTS,
+        status: Status::Done,
+        out: "",
+        err: "",
+    },
+    Case {
+        text: SWAP_SOURCE,
+        tie: PAIR,
+        words: ASM,
+        faults: SECOND_READ,
+        status: Status::ReadFault,
+        out: "",
+        err: "read fault: p\n",
     },
 ];
 

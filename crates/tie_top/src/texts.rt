@@ -1,9 +1,10 @@
-//! What the text of a file is: a description, an image, or how it is refused.
+//! What the text of a file is: a description, an image, a source, or how it is refused.
 
 ghost use Rattle.std.specs.Prelude.{◌≡◌, ◌≤◌, length, IfOk, Ok};
 ghost use Rattle.tie_front.specs.Front.{IsDescriptionOf, IsAloneOf};
 ghost use Rattle.hex_text.specs.Hexadecimal.{hex_bytes};
-ghost use Rattle.tie_top.specs.Files.{RefusesTie, RefusesAlone, RefusesHex};
+ghost use Rattle.xt_asm.specs.Assembly.{assembly};
+ghost use Rattle.tie_top.specs.Files.{RefusesTie, RefusesAlone, RefusesHex, RefusesSource};
 ghost use Rattle.tie_top.specs.Parts.{Judges};
 
 use crate::refusal::Refusal;
@@ -12,6 +13,7 @@ use hex_text::{HexRefusal, read_hex};
 use std::alloc::Global;
 use tie_desc::Desc;
 use tie_front::{TieRefusal, read_alone, read_tie};
+use xt_asm::{AsmRefusal, assemble};
 
 // The most bytes of an image.
 const IMAGE_LIMIT: usize = 65_536;
@@ -62,5 +64,22 @@ pub fn hex_of(alloc: Global, name: &str, text: &[u8]) -> Result<Vec<u8>, Refusal
             place,
         }),
         Err(HexRefusal::NoMemory) => Err(Refusal::NoMemory),
+    }
+}
+
+/// The image of a source.
+pub fn source_of(alloc: Global, name: &str, desc: &Desc, text: &[u8]) -> Result<Vec<u8>, Refusal>
+    requires { length text.now ≤ 1048576 }
+    ensures { Judges (λ image. assembly desc.now text.now ≡ Ok image.items) (RefusesSource desc.now name.now text.now) result }
+{
+    match assemble(alloc, desc, text) {
+        Ok(image) => Ok(image),
+        Err(AsmRefusal::Fault { rule, line, column }) => Err(Refusal::AsmRefused {
+            name: Text::copy_of(alloc, name)?,
+            rule,
+            line,
+            column,
+        }),
+        Err(AsmRefusal::NoMemory) => Err(Refusal::NoMemory),
     }
 }

@@ -1,5 +1,5 @@
 ghost use Rattle.tie_top.specs.Answers.{called, IsRight, IsGiven, IsComplete};
-ghost use Rattle.tie_top.specs.Answers.{UsageIsRight, ReadFaultIsRight, TooLongIsRight, TieRefusedIsRight, TextRefusedIsRight, DoneIsRight, TrappedIsRight, UnfinishedIsRight, WriteFaultIsRight};
+ghost use Rattle.tie_top.specs.Answers.{UsageIsRight, ReadFaultIsRight, TooLongIsRight, TieRefusedIsRight, AsmRefusedIsRight, TextRefusedIsRight, DoneIsRight, TrappedIsRight, UnfinishedIsRight, WriteFaultIsRight};
 
 use crate::delivery::deliver;
 use crate::judgement::judge;
@@ -33,6 +33,8 @@ pub fn tie_top<R: Threads, S: Shelf, O: Sink, G: Gate>(
     ensures too_long { TooLongIsRight (called S.holds S.faults O.written O.faults
         words.now shelf.old shelf.new out.old out.new err.old err.new result) }
     ensures tie_refused { TieRefusedIsRight (called S.holds S.faults O.written O.faults
+        words.now shelf.old shelf.new out.old out.new err.old err.new result) }
+    ensures asm_refused { AsmRefusedIsRight (called S.holds S.faults O.written O.faults
         words.now shelf.old shelf.new out.old out.new err.old err.new result) }
     ensures text_refused { TextRefusedIsRight (called S.holds S.faults O.written O.faults
         words.now shelf.old shelf.new out.old out.new err.old err.new result) }

@@ -1,7 +1,7 @@
 -- The definitions on worked rows.
 use Rattle.std.proofs.Common.{codes, [], ◌∷◌, refl}
-use Rattle.tie_words.specs.Words.{Check, Exec, ExecTie, Accepts, WrongAt}
-use Rattle.tie_words.proofs.WordLemmas.{check_form, exec_form, names_read, none_wrong, is_check, is_exec, is_exec_tie}
+use Rattle.tie_words.specs.Words.{Check, Asm, Dis, Exec, ExecTie, Accepts, WrongAt}
+use Rattle.tie_words.proofs.WordLemmas.{check_form, asm_form, dis_form, exec_form, names_read, none_wrong, is_check, is_asm, is_dis, is_exec, is_exec_tie}
 
 check_text : Accepts (codes "check" ∷ codes "t" ∷ []) (Check (codes "t"))
 check_text = is_check (codes "t" ∷ []) (codes "t") (names_read (codes "check") 1 1 check_form (codes "t" ∷ [])) refl
@@ -23,3 +23,12 @@ empty = names_read (codes "exec") 1 2 exec_form ([] ∷ codes "t" ∷ [])
 
 more : WrongAt (codes "exec" ∷ codes "p" ∷ codes "t" ∷ codes "q" ∷ []) 3
 more = names_read (codes "exec") 1 2 exec_form (codes "p" ∷ codes "t" ∷ codes "q" ∷ [])
+
+assembled : Accepts (codes "asm" ∷ codes "t" ∷ codes "s" ∷ []) (Asm (codes "t") (codes "s"))
+assembled = is_asm (codes "t" ∷ codes "s" ∷ []) (codes "t") (codes "s") (names_read (codes "asm") 2 2 asm_form (codes "t" ∷ codes "s" ∷ [])) refl
+
+listed : Accepts (codes "dis" ∷ codes "t" ∷ codes "p" ∷ []) (Dis (codes "t") (codes "p"))
+listed = is_dis (codes "t" ∷ codes "p" ∷ []) (codes "t") (codes "p") (names_read (codes "dis") 2 2 dis_form (codes "t" ∷ codes "p" ∷ [])) refl
+
+no_source : WrongAt (codes "asm" ∷ codes "t" ∷ []) 2
+no_source = names_read (codes "asm") 2 2 asm_form (codes "t" ∷ [])

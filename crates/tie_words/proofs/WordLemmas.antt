@@ -4,7 +4,7 @@ use Rattle.std.specs.Prelude.{nat_lt, ◌==◌, ◌&&◌}
 use Rattle.std.proofs.lemmas.List.{append_assoc, append-nil}
 use Rattle.std.proofs.lemmas.Grind.{common_steps}
 use Rattle.std.proofs.Math.Seq.{take-add, take-append-add}
-use Rattle.tie_words.specs.Words.{Meant, Check, Exec, ExecTie, AreNames, spelled, Accepts, Begins, WrongAt}
+use Rattle.tie_words.specs.Words.{Meant, Check, Asm, Dis, Exec, ExecTie, AreNames, spelled, Accepts, Begins, WrongAt}
 use Rattle.tie_words.specs.Reading.{wrong_from}
 
 -- ---- what is one
@@ -30,6 +30,8 @@ same_bytes a b e h = ap (λ z. alike a z) (sym e) ∙ h
 -- a list has one command
 same_spelled : (c d : Meant) → spelled c ≡ spelled d → c ≡ d
 same_spelled (Check a) (Check b) e = let p : a ≡ b = cc in ap Check p
+same_spelled (Asm a x) (Asm b y) e = let p : a ≡ b = cc in let q : x ≡ y = cc in ap (λ z. Asm z x) p ∙ ap (λ z. Asm b z) q
+same_spelled (Dis a x) (Dis b y) e = let p : a ≡ b = cc in let q : x ≡ y = cc in ap (λ z. Dis z x) p ∙ ap (λ z. Dis b z) q
 same_spelled (Exec a) (Exec b) e = let p : a ≡ b = cc in ap Exec p
 same_spelled (ExecTie a x) (ExecTie b y) e = let p : a ≡ b = cc in let q : x ≡ y = cc in ap (λ z. ExecTie z x) p ∙ ap (λ z. ExecTie b z) q
 same_spelled (Exec a) (ExecTie b y) e = let p : [] ≡ y ∷ [] = cc in absurd cc
@@ -202,6 +204,17 @@ names_read word least most form names = names_from word least most form 0 [] nam
 
 -- ---- the forms of the commands
 
+two_names : (names : List (List ℕ)) → length names ≡ 2 → (a b : List ℕ) × (names ≡ a ∷ b ∷ [])
+two_names [] e = absurd cc
+two_names (a ∷ []) e = absurd (grind arith)
+two_names (a ∷ b ∷ []) e = (a, b, refl)
+two_names (a ∷ b ∷ c ∷ rest) e = absurd (grind arith)
+
+one_name : (names : List (List ℕ)) → length names ≡ 1 → (a : List ℕ) × (names ≡ a ∷ [])
+one_name [] e = absurd cc
+one_name (a ∷ []) e = (a, refl)
+one_name (a ∷ b ∷ rest) e = absurd (grind arith)
+
 -- a word that is another
 other_word : (names : List (List ℕ)) (word : List ℕ) (other : Meant) → word ∷ names ≡ spelled other → alike word word ≡ true → alike word (first (spelled other)) ≡ true
 other_word names word other e h = same_bytes word (first (spelled other)) (ap first e) h
@@ -217,6 +230,33 @@ check_form = record { order = omega arith; makes = makes; only = only }
     only : (names : List (List ℕ)) (command : Meant) → Accepts (codes "check" ∷ names) command → AreBehind 1 1 names
     only names (Check tie) a = let h : codes "check" ∷ names ≡ codes "check" ∷ tie ∷ [] = a.spells in let e : names ≡ tie ∷ [] = cc in record { named = a.named.1; enough = rw e (omega arith); few = rw e (omega arith) }
     only names other a = absurd (no_bit (other_word names (codes "check") other a.spells refl))
+
+two_form : (word : List ℕ) (make : List ℕ → List ℕ → Meant) → ((a b : List ℕ) → spelled (make a b) ≡ word ∷ a ∷ b ∷ []) → word ≢ []
+    → ((names : List (List ℕ)) (command : Meant) → word ∷ names ≡ spelled command → length names ≡ 2) → IsForm word 2 2
+two_form word make is_spelled some only_two = record { order = omega arith; makes = makes; only = only }
+  where
+    makes : (names : List (List ℕ)) → AreBehind 2 2 names → (command : Meant) × Accepts (word ∷ names) command
+    makes (a ∷ b ∷ []) h = (make a b, record { spells = sym (is_spelled a b); named = (some, h.named) })
+    makes [] h = absurd (grind (arith, h.enough))
+    makes (a ∷ []) h = absurd (grind (arith, h.enough))
+    makes (a ∷ b ∷ c ∷ rest) h = absurd (grind (arith, h.few))
+
+    only : (names : List (List ℕ)) (command : Meant) → Accepts (word ∷ names) command → AreBehind 2 2 names
+    only names command a = let e = only_two names command a.spells in record { named = a.named.1; enough = omega (arith, e); few = omega (arith, e) }
+
+pub asm_form : IsForm (codes "asm") 2 2
+asm_form = two_form (codes "asm") Asm (λ a b. refl) (λ e. absurd cc) two
+  where
+    two : (names : List (List ℕ)) (command : Meant) → codes "asm" ∷ names ≡ spelled command → length names ≡ 2
+    two names (Asm tie source) h = let e : names ≡ tie ∷ source ∷ [] = cc in rw e refl
+    two names other h = absurd (no_bit (other_word names (codes "asm") other h refl))
+
+pub dis_form : IsForm (codes "dis") 2 2
+dis_form = two_form (codes "dis") Dis (λ a b. refl) (λ e. absurd cc) two
+  where
+    two : (names : List (List ℕ)) (command : Meant) → codes "dis" ∷ names ≡ spelled command → length names ≡ 2
+    two names (Dis tie hex) h = let e : names ≡ tie ∷ hex ∷ [] = cc in rw e refl
+    two names other h = absurd (no_bit (other_word names (codes "dis") other h refl))
 
 pub exec_form : IsForm (codes "exec") 1 2
 exec_form = record { order = omega arith; makes = makes; only = only }
@@ -258,18 +298,26 @@ other_wrong word words ne = record {
     no_front : ¬ Begins (word ∷ [])
     no_front (rest, command, a) = ne command (ap first a.spells)
 
-no_command : (word : List ℕ) (words : List (List ℕ)) → word ≢ codes "check" → word ≢ codes "exec" → WrongAt (word ∷ words) 0
-no_command word words a b = other_wrong word words each
+pub no_command : (word : List ℕ) (words : List (List ℕ)) → word ≢ codes "check" → word ≢ codes "asm" → word ≢ codes "dis" → word ≢ codes "exec" → WrongAt (word ∷ words) 0
+no_command word words a b c d = other_wrong word words each
   where
     each : (command : Meant) → word ≢ first (spelled command)
     each (Check tie) = a
-    each (Exec hex) = b
-    each (ExecTie hex tie) = b
+    each (Asm tie source) = b
+    each (Dis tie hex) = c
+    each (Exec hex) = d
+    each (ExecTie hex tie) = d
 
 -- ---- the commands of names
 
 pub is_check : (names : List (List ℕ)) (tie : List ℕ) → AreBehind 1 1 names → names ≡ tie ∷ [] → Accepts (codes "check" ∷ names) (Check tie)
 is_check names tie h e = record { spells = ap (λ z. codes "check" ∷ z) e; named = ((λ p. absurd cc), h.named) }
+
+pub is_asm : (names : List (List ℕ)) (tie source : List ℕ) → AreBehind 2 2 names → names ≡ tie ∷ source ∷ [] → Accepts (codes "asm" ∷ names) (Asm tie source)
+is_asm names tie source h e = record { spells = ap (λ z. codes "asm" ∷ z) e; named = ((λ p. absurd cc), h.named) }
+
+pub is_dis : (names : List (List ℕ)) (tie hex : List ℕ) → AreBehind 2 2 names → names ≡ tie ∷ hex ∷ [] → Accepts (codes "dis" ∷ names) (Dis tie hex)
+is_dis names tie hex h e = record { spells = ap (λ z. codes "dis" ∷ z) e; named = ((λ p. absurd cc), h.named) }
 
 pub is_exec : (names : List (List ℕ)) (hex : List ℕ) → AreBehind 1 2 names → names ≡ hex ∷ [] → Accepts (codes "exec" ∷ names) (Exec hex)
 is_exec names hex h e = record { spells = ap (λ z. codes "exec" ∷ z) e; named = ((λ p. absurd cc), h.named) }
@@ -282,5 +330,5 @@ no_words [] e = none_wrong
 no_words (word ∷ words) e = absurd (grind arith)
 
 pub no_command_of : {Y : Type 0} (words names : List (String Y)) (word : String Y) (text : List ℕ) → words ≡ word ∷ names → text ≡ string_bytes word
-    → text ≢ codes "check" → text ≢ codes "exec" → WrongAt (map string_bytes words) 0
-no_command_of words names word text e same a b = rw (e, sym same) (no_command text (map string_bytes names) a b)
+    → text ≢ codes "check" → text ≢ codes "asm" → text ≢ codes "dis" → text ≢ codes "exec" → WrongAt (map string_bytes words) 0
+no_command_of words names word text e same a b c d = rw (e, sym same) (no_command text (map string_bytes names) a b c d)

@@ -2,11 +2,13 @@
 use Rattle.std.specs.Prelude.{ℕ, ◌+◌, ◌||◌, ◌==◌, nat_lt, if◌then◌else◌, List, [], ◌∷◌, length, Option, Some, None}
 use Rattle.tie_words.specs.declared.command.Command.{Command}
 use Rattle.tie_words.specs.declared.command.Command.TheVariants as commands
-use Rattle.tie_words.specs.Words.{Meant, Check, Exec, ExecTie}
+use Rattle.tie_words.specs.Words.{Meant, Check, Asm, Dis, Exec, ExecTie}
 
 -- a command by the words in it
 abbrev pub seen : Command → Meant
 seen (commands.Check tie) = Check tie.now
+seen (commands.Asm tie source) = Asm tie.now source.now
+seen (commands.Dis tie hex) = Dis tie.now hex.now
 seen (commands.Exec hex) = Exec hex.now
 seen (commands.ExecTie hex tie) = ExecTie hex.now tie.now
 

@@ -4,12 +4,16 @@ use Rattle.std.specs.Prelude.{◌≡◌, ◌≢◌, ℕ, ◌+◌, ◌<◌, ◌�
 -- a command, with the words in it that aren't fixed
 pub data Meant : Type 0 where
   Check : (tie : List ℕ) → Meant
+  Asm : (tie source : List ℕ) → Meant
+  Dis : (tie hex : List ℕ) → Meant
   Exec : (hex : List ℕ) → Meant
   ExecTie : (hex tie : List ℕ) → Meant
 
 -- the words of a command
 abbrev pub spelled : Meant → List (List ℕ)
 spelled (Check tie) = codes "check" ∷ tie ∷ []
+spelled (Asm tie source) = codes "asm" ∷ tie ∷ source ∷ []
+spelled (Dis tie hex) = codes "dis" ∷ tie ∷ hex ∷ []
 spelled (Exec hex) = codes "exec" ∷ hex ∷ []
 spelled (ExecTie hex tie) = codes "exec" ∷ hex ∷ tie ∷ []
 

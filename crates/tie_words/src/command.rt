@@ -7,6 +7,10 @@ ghost use Rattle.tie_words.specs.Reading.{seen, wrong_from};
 pub enum Command<'a> {
     /// Judges a TIE text and lists what it declares.
     Check { tie: &'a str },
+    /// Assembles a source for a TIE text.
+    Asm { tie: &'a str, source: &'a str },
+    /// Lists the image in a file of hexadecimal text by a TIE text.
+    Dis { tie: &'a str, hex: &'a str },
     /// Runs the image in a file of hexadecimal text.
     Exec { hex: &'a str },
     /// Runs it with the extension of a TIE text.
@@ -24,6 +28,8 @@ pub fn command_of(words: &[String]) -> Result<Command<'_>, u32>
     };
     match word.as_str() {
         "check" => check_of(names),
+        "asm" => asm_of(names),
+        "dis" => dis_of(names),
         "exec" => exec_of(names),
         _ => Err(0),
     }
@@ -38,6 +44,34 @@ fn check_of(names: &[String]) -> Result<Command<'_>, u32>
         Some(number) => Err(1 + number),
         None => Ok(Command::Check {
             tie: names[0].as_str(),
+        }),
+    }
+}
+
+fn asm_of(names: &[String]) -> Result<Command<'_>, u32>
+    ensures { MatchResult result
+        (λ command. Accepts (codes "asm" ∷ map string_bytes names.now) (seen command))
+        (λ place. WrongAt (codes "asm" ∷ map string_bytes names.now) place) }
+{
+    match wrong_name(names, 2, 2) {
+        Some(number) => Err(1 + number),
+        None => Ok(Command::Asm {
+            tie: names[0].as_str(),
+            source: names[1].as_str(),
+        }),
+    }
+}
+
+fn dis_of(names: &[String]) -> Result<Command<'_>, u32>
+    ensures { MatchResult result
+        (λ command. Accepts (codes "dis" ∷ map string_bytes names.now) (seen command))
+        (λ place. WrongAt (codes "dis" ∷ map string_bytes names.now) place) }
+{
+    match wrong_name(names, 2, 2) {
+        Some(number) => Err(1 + number),
+        None => Ok(Command::Dis {
+            tie: names[0].as_str(),
+            hex: names[1].as_str(),
         }),
     }
 }

@@ -9,7 +9,7 @@ struct Row {
     wrong: Option<u32>,
 }
 
-const ROWS: [Row; 9] = [
+const ROWS: [Row; 14] = [
     Row {
         words: &[],
         wrong: Some(0),
@@ -46,6 +46,26 @@ const ROWS: [Row; 9] = [
         words: &["exec", "p", "t"],
         wrong: None,
     },
+    Row {
+        words: &["asm", "t"],
+        wrong: Some(2),
+    },
+    Row {
+        words: &["asm", "t", "s"],
+        wrong: None,
+    },
+    Row {
+        words: &["asm", "t", "s", "q"],
+        wrong: Some(3),
+    },
+    Row {
+        words: &["dis", "", "p"],
+        wrong: Some(1),
+    },
+    Row {
+        words: &["dis", "t", "p"],
+        wrong: None,
+    },
 ];
 
 fn words_of(alloc: Global, row: &Row) -> Result<Vec<String>, AllocError> {
@@ -62,6 +82,36 @@ fn rows(rt: HostRuntime) -> Result<(), Fail> {
         let words = words_of(rt.alloc(), row)?;
         assert!(rt; command_of(&words).err() == row.wrong, "row {number}");
     }
+    Ok(())
+}
+
+#[test]
+fn files_of_asm(rt: HostRuntime) -> Result<(), Fail> {
+    let row = Row {
+        words: &["asm", "t", "s"],
+        wrong: None,
+    };
+    let words = words_of(rt.alloc(), &row)?;
+    let named = match command_of(&words) {
+        Ok(Command::Asm { tie, source }) => tie == "t" && source == "s",
+        _ => false,
+    };
+    assert!(rt; named);
+    Ok(())
+}
+
+#[test]
+fn files_of_dis(rt: HostRuntime) -> Result<(), Fail> {
+    let row = Row {
+        words: &["dis", "t", "p"],
+        wrong: None,
+    };
+    let words = words_of(rt.alloc(), &row)?;
+    let named = match command_of(&words) {
+        Ok(Command::Dis { tie, hex }) => tie == "t" && hex == "p",
+        _ => false,
+    };
+    assert!(rt; named);
     Ok(())
 }
 

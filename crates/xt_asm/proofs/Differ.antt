@@ -1,15 +1,11 @@
 -- Registers of which none is repeated all differ.
-use Rattle.std.proofs.Common.{◌≡◌, ℕ, zero, suc, Bool, true, false, not, cond, List, [], ◌∷◌, ◌++◌, length, refl, arith, sym, ap, subst, Option, Some, None, ◌∙◌, append_assoc}
-use Rattle.std.specs.Prelude.{◌&&◌, ◌||◌, map, slice_get, if◌then◌else◌}
-use Rattle.std.specs.List.{list_any, flat_map}
+use Rattle.std.proofs.Common.{◌≡◌, ℕ, Bool, true, false, not, List, [], ◌∷◌, ◌++◌, refl, sym, ap, Option, Some, None, ◌∙◌, append_assoc}
+use Rattle.std.specs.Prelude.{◌&&◌, ◌||◌, map, if◌then◌else◌}
+use Rattle.std.specs.List.{list_any}
 use Rattle.std.proofs.lemmas.List.{append-nil}
 use Rattle.tie_desc.specs.Names.{all_differ}
-use Rattle.tie_desc.specs.Spots.{same_spot, spot_of, arg_spots, written_registers}
-use Rattle.tie_desc.specs.Slots.{args_of}
-use Rattle.tie_desc.specs.Description.{Description}
+use Rattle.tie_desc.specs.Spots.{same_spot}
 use Rattle.tie_desc.specs.declared.bundle.Spot.{Spot}
-use Rattle.tie_desc.specs.declared.declarations.Access.{Access}
-use Rattle.asm_lines.specs.declared.line.Operand.{Operand}
 use Rattle.asm_rules.specs.declared.written.Written.{Written}
 use Rattle.asm_rules.specs.Slots.{repeated}
 
@@ -69,7 +65,7 @@ differ_from es [] h k = ap (all_differ same_spot) (append-nil (map (λ w. w.spot
 differ_from es (w ∷ ws) h k =
     let g = not_found (list_any (λ e. same_spot e.spot w.spot) es) w.column (repeated (es ++ w ∷ []) ws) h in
     let more : all_differ same_spot (map (λ w. w.spot) (es ++ w ∷ [])) ≡ true =
-        ap (all_differ same_spot) (map_snoc es w) ∙ one_more (map (λ w. w.spot) es) w.spot k (any_mapped (λ x. same_spot x w.spot) es ∙ g.0) in
+    ap (all_differ same_spot) (map_snoc es w) ∙ one_more (map (λ w. w.spot) es) w.spot k (any_mapped (λ x. same_spot x w.spot) es ∙ g.0) in
     sym (ap (all_differ same_spot) (ap (λ z. z ++ map (λ w. w.spot) ws) (map_snoc es w) ∙ append_assoc (map (λ w. w.spot) es) (w.spot ∷ []) (map (λ w. w.spot) ws)))
     ∙ differ_from (es ++ w ∷ []) ws g.1 more
 

@@ -1,20 +1,19 @@
 -- Where a rule is not broken, its test holds of each operand.
-use Rattle.std.proofs.Common.{◌≡◌, ℕ, zero, suc, ◌+◌, ◌≤◌, ◌<◌, Bool, true, false, ℤ, pos, negsuc, List, [], ◌∷◌, length, refl, arith, sym, ap, subst, Option, Some, None, ◌∙◌, IsTrue}
-use Rattle.std.specs.Prelude.{◌==◌, ◌&&◌, ◌||◌, is_some, unwrap_or, slice_get, nat_lt}
+use Rattle.std.proofs.Common.{◌≡◌, ℕ, Bool, true, false, ℤ, pos, List, [], ◌∷◌, refl, arith, Option, Some, None}
+use Rattle.std.specs.Prelude.{◌==◌, ◌&&◌, is_some, unwrap_or}
 use Rattle.std.specs.Option.{option_map}
 use Rattle.std.proofs.lemmas.Bool.Decides.{nat_tests}
 use Rattle.xt_mnemonics.specs.declared.shape.Way.{Way}
 use Rattle.xt_mnemonics.specs.declared.shape.Shape.{Shape}
 use Rattle.xt_mnemonics.specs.declared.shape.Shape.TheVariants as shape
-use Rattle.xt_mnemonics.specs.Shapes.{fits_shape, in_reach, distance, EachFits, AllFit}
+use Rattle.xt_mnemonics.specs.Shapes.{fits_shape, in_reach, distance}
 use Rattle.tie_desc.specs.Description.{Description}
 use Rattle.asm_lines.specs.declared.line.Operand.{Operand}
-use Rattle.asm_lines.specs.declared.line.Operand.TheVariants as written
 use Rattle.asm_rules.specs.declared.expected.Expected.{Expected}
 use Rattle.asm_rules.specs.declared.expected.Expected.TheVariants as expect
-use Rattle.asm_rules.specs.Operands.{Find, Judge, column_of, meant, is_kind, in_range, is_target, accepted, accepts, reaches, reached, target}
-use Rattle.asm_rules.specs.Rules.{or_else, unless, first_in, judged}
-use Rattle.xt_asm.specs.Bytes.{value_of, values}
+use Rattle.asm_rules.specs.Operands.{Find, column_of, meant, is_kind, in_range, accepted, accepts, reaches, reached, target}
+use Rattle.asm_rules.specs.Rules.{or_else, unless, judged}
+use Rattle.xt_asm.specs.Bytes.{value_of}
 
 pub none_both : {A : Type 0} (a b : Option A) → or_else a b ≡ None → (a ≡ None) × (b ≡ None)
 none_both None b h = (refl, h)
@@ -94,15 +93,16 @@ AreFine d find at _ _ = Unit {0}
 
 pub are_fine : (d : Description) (find : Find) (at : ℕ) (es : List Expected) (os : List Operand)
     → judged (is_kind d) es os ≡ None → judged (in_range d) es os ≡ None → judged (reaches find at) es os ≡ None → AreFine d find at es os
-
 are_fine d find at [] os k r t = tt
 are_fine d find at (e ∷ es) [] k r t = tt
 are_fine d find at (e ∷ es) (o ∷ os) k r t =
     let a = none_both (unless (is_kind d e o) (column_of o)) (judged (is_kind d) es os) k in
     let b = none_both (unless (in_range d e o) (column_of o)) (judged (in_range d) es os) r in
-    let c = none_both (unless (reaches find at e o) (column_of o)) (judged (reaches find at) es os) t in
-    (record {
-      kind = unless_none (is_kind d e o) (column_of o) a.0;
-      range = unless_none (in_range d e o) (column_of o) b.0;
-      reach = unless_none (reaches find at e o) (column_of o) c.0;
-    }, are_fine d find at es os a.1 b.1 c.1)
+    let c = none_both (unless (reaches find at e o) (column_of o)) (judged (reaches find at) es os) t in (
+      record {
+        kind = unless_none (is_kind d e o) (column_of o) a.0;
+        range = unless_none (in_range d e o) (column_of o) b.0;
+        reach = unless_none (reaches find at e o) (column_of o) c.0;
+      },
+      are_fine d find at es os a.1 b.1 c.1,
+    )

@@ -1,10 +1,10 @@
 -- Operands that no rule refuses fit: the numbers of instructions, the fields of operations.
-use Rattle.std.proofs.Common.{◌≡◌, ℕ, zero, suc, ◌+◌, ◌%◌, ◌≤◌, ◌<◌, Bool, true, false, ℤ, pos, negsuc, List, [], ◌∷◌, length, refl, arith, sym, ap, subst, All, Option, Some, None, ◌∙◌, IsTrue}
-use Rattle.std.specs.Prelude.{◌==◌, ◌&&◌, ◌||◌, is_some, unwrap_or, slice_get, map, nat_lt, nat_le, int_le, unsigned_abs, ◌-ℤ◌, ◌/◌}
+use Rattle.std.proofs.Common.{◌≡◌, ℕ, suc, ◌%◌, ◌≤◌, ◌<◌, true, ℤ, pos, negsuc, List, [], ◌∷◌, length, refl, arith, ap, Option, Some, None, IsTrue}
+use Rattle.std.specs.Prelude.{◌==◌, ◌&&◌, unwrap_or, slice_get, map, nat_lt, nat_le, int_le, unsigned_abs, ◌-ℤ◌}
 use Rattle.std.proofs.lemmas.Bool.Decides.{nat_tests}
 use Rattle.xt_mnemonics.specs.declared.shape.Shape.{Shape}
 use Rattle.xt_mnemonics.specs.declared.shape.Shape.TheVariants as shape
-use Rattle.xt_mnemonics.specs.Shapes.{fits_shape, is_between, EachFits, AllFit}
+use Rattle.xt_mnemonics.specs.Shapes.{is_between, EachFits, AllFit}
 use Rattle.tie_desc.specs.Description.{Description}
 use Rattle.tie_desc.specs.Operands.{limit, file_depth, range_count}
 use Rattle.tie_desc.specs.Invariant.{is_argument}
@@ -13,12 +13,11 @@ use Rattle.tie_desc.specs.declared.declarations.RangeDecl.{RangeDecl}
 use Rattle.tie_desc.specs.declared.declarations.Kind.{Kind}
 use Rattle.tie_desc.specs.declared.declarations.Kind.TheVariants as kind
 use Rattle.asm_lines.specs.declared.line.Operand.{Operand}
-use Rattle.asm_rules.specs.declared.expected.Expected.{Expected}
 use Rattle.asm_rules.specs.declared.expected.Expected.TheVariants as expect
 use Rattle.asm_rules.specs.Expected.{of_kind}
 use Rattle.asm_rules.specs.Operands.{Find, meant, in_file, in_values, place_in}
 use Rattle.asm_rules.specs.Slots.{number_in, field_of, range_place}
-use Rattle.xt_asm.specs.Bytes.{value_of, values}
+use Rattle.xt_asm.specs.Bytes.{values}
 use Rattle.xt_asm.proofs.Fine.{IsFine, AreFine, shape_fits, has_number, both}
 
 -- ---- core instructions

@@ -2,3 +2,10 @@ pub mod Differ
 pub mod Fine
 pub mod Fitted
 pub mod Small
+pub mod Named
+pub mod Parts
+pub mod Faultless
+pub mod Unbroken
+pub mod Judged
+pub mod Rows
+pub mod Numbers

@@ -1,3 +1,4 @@
 pub mod Bytes
 pub mod Assembly
+pub mod Known
 pub mod Spelled

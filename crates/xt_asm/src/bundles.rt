@@ -4,9 +4,9 @@ ghost use Rattle.std.specs.Prelude.{◌≡◌, ◌≤◌, ◌++◌, map, OnOk, l
 ghost use Rattle.tie_desc.specs.Spelling.{HasSpelling, spell};
 ghost use Rattle.xt_asm.specs.Bytes as spec;
 
+use arrayvec::ArrayVec;
 use asm_lines::Operation;
 use asm_rules::{code_in, fields};
-use arrayvec::ArrayVec;
 use std::alloc::AllocError;
 use tie_desc::{Bundle, Code, Desc, Part, SlotCore};
 use tie_flix::encode_bundle;

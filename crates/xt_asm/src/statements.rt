@@ -14,23 +14,18 @@ use asm_lines::{Operand, Operation, Operator, Statement};
 use asm_rules::{Labels, alignment, filling};
 use std::alloc::AllocError;
 use tie_desc::{Bundle, Desc};
-use xt_mnemonics::{Mnemonic, build};
+use xt_mnemonics::{Mnemonic, build, words_fit};
 
 fn push_zeros(count: u32, out: &mut Vec<u8>) -> Result<(), AllocError>
     ensures { OnOk result (out.new.items ≡ out.old.items ++ replicate count 0) }
 {
-    for _ in 0..count {
+    for zero in 0..count {
         out.push(0)?;
     }
     Ok(())
 }
 
-fn push_value(
-    desc: &Desc,
-    size: u8,
-    operand: &Operand,
-    out: &mut Vec<u8>,
-) -> Result<(), AllocError>
+fn push_value(desc: &Desc, size: u8, operand: &Operand, out: &mut Vec<u8>) -> Result<(), AllocError>
     requires { spelled.AcceptsValue desc.now size operand.now }
     ensures { OnOk result (out.new.items ≡ out.old.items ++ spec.value_bytes size operand.now) }
 {
@@ -75,6 +70,7 @@ fn push_core(
         mnemonic,
         values(desc, labels, addresses, at, operator, operands),
     );
+    words_fit();
     push_bundle(desc, &Bundle::Core(inst), out)
 }
 
@@ -110,6 +106,7 @@ fn push_wide(
     match format {
         None => Ok(()),
         Some(format) => {
+            desc.facts();
             let parts = parts_of(desc, operations);
             push_bundle(desc, &Bundle::Wide { format, parts }, out)
         }
@@ -132,7 +129,9 @@ pub fn push_statement(
         Statement::Nothing => Ok(()),
         Statement::Alone(operation) => push_alone(desc, labels, addresses, at, operation, out),
         Statement::Wide {
-            format, operations, ..
+            format,
+            operations,
+            ..
         } => push_wide(desc, *format, operations.as_slice(), out),
         Statement::Values { size, values, .. } => {
             push_values(desc, *size, values.as_slice(), out)

@@ -11,6 +11,8 @@ import shlex
 import subprocess
 import sys
 
+from printed import end, is_wanted
+
 
 def commands(session):
     """The commands of a session: words, the lines that are wanted, the status that is wanted."""
@@ -34,24 +36,14 @@ def commands(session):
 def main():
     program = pathlib.Path(sys.argv[1]).resolve()
     examples = pathlib.Path(__file__).resolve().parent.parent / "examples"
-    count, wrong, folders = 0, 0, 0
+    count, wrong = 0, 0
     for session in sorted(examples.glob("*/session")):
-        folders += 1
         for words, wanted, status in commands(session):
             count += 1
             run = subprocess.run([program, *words], cwd=session.parent, capture_output=True, text=True, timeout=120)
-            printed = (run.stdout + run.stderr).splitlines()
-            if printed != wanted or run.returncode != status:
-                wrong += 1
-                print(f"{session}: {shlex.join(words)}")
-                print(f"  wanted status {status}, got {run.returncode}")
-                for line in wanted:
-                    print(f"  - {line}")
-                for line in printed:
-                    print(f"  + {line}")
-    print(f"examples: {count} commands in {folders} folders, {wrong} wrong")
-    if count == 0 or wrong > 0:
-        raise SystemExit(1)
+            printed = [*(run.stdout + run.stderr).splitlines(), f"[status {run.returncode}]"]
+            wrong += not is_wanted(f"{session}: {shlex.join(words)}", [*wanted, f"[status {status}]"], printed)
+    end("examples", count, wrong)
 
 
 if __name__ == "__main__":

@@ -11,6 +11,8 @@ import subprocess
 import sys
 import tempfile
 
+from printed import end, is_wanted
+
 
 def blocks(text):
     """The blocks of the guide: the paragraph before it, its kind, its lines."""
@@ -63,16 +65,8 @@ def main():
                 run = subprocess.run(["sh", "-c", shell], cwd=folder, capture_output=True, text=True, timeout=120)
                 status = run.returncode
                 printed = (run.stdout + run.stderr).splitlines()
-                if printed != wanted:
-                    wrong += 1
-                    print(f"docs/GUIDE.md: {command}")
-                    for line in wanted:
-                        print(f"  - {line}")
-                    for line in printed:
-                        print(f"  + {line}")
-    print(f"guide: {count} commands, {wrong} wrong")
-    if count == 0 or wrong > 0:
-        raise SystemExit(1)
+                wrong += not is_wanted(f"docs/GUIDE.md: {command}", wanted, printed)
+    end("guide", count, wrong)
 
 
 if __name__ == "__main__":

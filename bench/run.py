@@ -52,6 +52,32 @@ def loop(size):
     )
 
 
+SCALE = """queue IN 32 in
+queue OUT 32 out
+operation SCALE {} {in IN, out OUT} {assign OUT = IN << 2;}
+"""
+
+
+def items(size):
+    return 2000 * size
+
+
+def worker(size):
+    """A loop that takes each item of a queue and passes it on, and the halt."""
+    return f"J start\n.align 4\ncount: .word {items(size)}\nstart: L32R a2, count\nloop: SCALE\nADDI a2, a2, -1\nBNEZ a2, loop\nSIMCALL\n"
+
+
+def chain():
+    """A network in which a source's items go through three processors to a collector."""
+    lines = ["version = 1"]
+    for name in "ABC":
+        lines += ["[[core]]", f'name = "{name}"', 'tie = "scale"', 'image = "hex"']
+    lines += ["[[source]]", 'name = "S"', 'items = "items"', "[[collector]]", 'name = "K"']
+    for number, (start, end) in enumerate((("S", "A.IN"), ("A.OUT", "B.IN"), ("B.OUT", "C.IN"), ("C.OUT", "K"))):
+        lines += ["[[queue]]", f'name = "Q{number}"', "capacity = 4", f'from = "{start}"', f'to = "{end}"']
+    return "\n".join(lines) + "\n"
+
+
 def timed(words, folder, out=None):
     """The seconds and the peak memory, in megabytes, of the fastest of three runs."""
     best, peak = None, 0
@@ -94,6 +120,13 @@ def main():
             (at / "src").write_text(loop(size))
             timed([program, "asm", "ops", "src"], folder, "hex")
             row("exec", ["exec", "hex", "ops"], 62500 * size, "bundles")
+        (at / "scale").write_text(SCALE)
+        (at / "net").write_text(chain())
+        for size in SIZES:
+            (at / "src").write_text(worker(size))
+            (at / "items").write_text("00000001" * items(size))
+            timed([program, "asm", "scale", "src"], folder, "hex")
+            row("strict", ["strict", "net"], items(size), "items")
 
 
 if __name__ == "__main__":

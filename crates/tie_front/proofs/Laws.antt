@@ -1,5 +1,5 @@
 -- A text has one refusal, and none where it has a description.
-use Rattle.std.proofs.Common.{◌≡◌, ℕ, List, refl, sym, ap, subst, inl, inr, ◌∙◌}
+use Rattle.std.proofs.Common.{◌≡◌, ℕ, List, refl, sym, ap, subst, ◌∙◌}
 use Rattle.tie_lexer.specs.declared.Token.{Token}
 use Rattle.tie_lexer.specs.Tokens.{AreTokens}
 use Rattle.tie_lexer.proofs.Law.{fault_one, fault_or_tokens, one_list}
@@ -13,7 +13,7 @@ use Rattle.tie_desc.specs.Description.{Description}
 use Rattle.tie_check.specs.Checked.{Accepted}
 use Rattle.tie_front.specs.declared.refusal.TieRule.{TieRule}
 use Rattle.tie_front.specs.declared.refusal.TieRule.TheVariants.{Lex, Parse, Rule}
-use Rattle.tie_front.specs.Front.{IsDescriptionOf, IsRefused, IsRefusedAlone, IsAloneOf, HasNoQueues, DeclaresQueue, queue_place}
+use Rattle.tie_front.specs.Front.{IsDescriptionOf, IsRefused}
 
 -- the tree of a text is one
 trees : (text : List ℕ) (ts us : List Token) (t u : Tree) → AreTokens text ts → AreTokens text us → IsTreeOf text ts t → IsTreeOf text us u → t ≡ u
@@ -52,26 +52,3 @@ not_refused text d Parse p a b = tree_or_fault text a.tokens b.tokens a.tree p a
 not_refused text d (Rule r) p a b =
     let same : b.tree ≡ a.tree = trees text b.tokens a.tokens b.tree a.tree b.lexed a.lexed b.parsed a.parsed in
     none_first 1 (rules a.tree) r p a.accepted.holds (subst (λ t. IsFirst 1 (rules t) r p) same b.first)
-
--- descriptions of one text have the same queues
-same_queues : (text : List ℕ) (a b : Description) → IsDescriptionOf text a → IsDescriptionOf text b → HasNoQueues a → HasNoQueues b
-same_queues text a b p q none =
-    let same : p.tree ≡ q.tree = trees text p.tokens q.tokens p.tree q.tree p.lexed q.lexed p.parsed q.parsed in
-    let other : Accepted q.tree a = subst (λ t. Accepted t a) same p.accepted in (
-      ap (λ (d : Description). d.ins) q.accepted.describes.declared ∙ sym (ap (λ (d : Description). d.ins) other.describes.declared) ∙ none.0,
-      ap (λ (d : Description). d.outs) q.accepted.describes.declared ∙ sym (ap (λ (d : Description). d.outs) other.describes.declared) ∙ none.1,
-    )
-
-one_queue : (text : List ℕ) (p q : ℕ) → DeclaresQueue text p → DeclaresQueue text q → p ≡ q
-one_queue text p q a b = a.place_is ∙ ap (queue_place text) (one_list text a.is.tokens b.is.tokens a.is.lexed b.is.lexed) ∙ sym b.place_is
-
--- the same for a text of a processor that stands alone
-pub one_refusal_alone : (text : List ℕ) (r s : TieRule) (p q : ℕ) → IsRefusedAlone text r p → IsRefusedAlone text s q → AreOne r s p q
-one_refusal_alone text r s p q (inl a) (inl b) = one_refusal text r s p q a b
-one_refusal_alone text r s p q (inl a) (inr b) = absurd (not_refused text b.1.description r p b.1.is a)
-one_refusal_alone text r s p q (inr a) (inl b) = absurd (not_refused text a.1.description s q a.1.is b)
-one_refusal_alone text r s p q (inr a) (inr b) = record { rule = a.0 ∙ sym b.0; place = one_queue text p q a.1 b.1 }
-
-pub not_refused_alone : (text : List ℕ) (d : Description) (r : TieRule) (p : ℕ) → IsAloneOf text d → IsRefusedAlone text r p → ⊥
-not_refused_alone text d r p a (inl b) = not_refused text d r p a.0 b
-not_refused_alone text d r p a (inr b) = b.1.has (same_queues text d b.1.description a.0 b.1.is a.1)

@@ -1,8 +1,7 @@
 -- The description of a TIE text, or the first rule that the text breaks and its place.
-use Rattle.std.specs.Prelude.{◌≡◌, ◌⊎◌, ℕ, List, [], ◌∷◌, length, codes, if◌then◌else◌}
-use Rattle.std.specs.Str.{bytes_eq}
+use Rattle.std.specs.Prelude.{ℕ, List}
 use Rattle.tie_lexer.specs.declared.Token.{Token}
-use Rattle.tie_lexer.specs.Tokens.{AreTokens, IsFault, bytes_of}
+use Rattle.tie_lexer.specs.Tokens.{AreTokens, IsFault}
 use Rattle.tie_grammar.specs.declared.tree.Tree.{Tree}
 use Rattle.tie_ast.specs.Parsing.{IsTreeOf, IsFaultOf}
 use Rattle.tie_rules.specs.RuleBook.{rules}
@@ -39,28 +38,3 @@ abbrev pub IsRefused : List ℕ → TieRule → ℕ → Type 0
 IsRefused text (Lex rule) place = IsFault text rule place
 IsRefused text Parse place = IsMisparsed text place
 IsRefused text (Rule rule) place = IsIllFormed text rule place
-
--- ---- a text for a processor that stands alone
-
-abbrev pub HasNoQueues : Description → Type 0
-HasNoQueues d = (d.ins ≡ []) × (d.outs ≡ [])
-
--- the place of the first word `queue`, with which only the declaration of a queue begins; the text's length where there is none
-abbrev pub queue_place : List ℕ → List Token → ℕ
-queue_place text [] = length text
-queue_place text (t ∷ ts) = if bytes_eq (bytes_of text t) (codes "queue") then t.start else queue_place text ts
-
--- the text has a description that has queues, of which the first is declared here
-pub record DeclaresQueue (text : List ℕ) (place : ℕ) : Type 0 where
-  pub description : Description
-  pub is : IsDescriptionOf text description
-  pub has : ¬ HasNoQueues description
-  pub place_is : place ≡ queue_place text is.tokens
-
--- a text that is otherwise accepted and declares a queue is refused as one that isn't parsed, at the first such declaration
-abbrev pub IsRefusedAlone : List ℕ → TieRule → ℕ → Type 0
-IsRefusedAlone text rule place = IsRefused text rule place ⊎ ((rule ≡ Parse) × DeclaresQueue text place)
-
--- the text has this description, which has no queues
-abbrev pub IsAloneOf : List ℕ → Description → Type 0
-IsAloneOf text d = IsDescriptionOf text d × HasNoQueues d

@@ -3,17 +3,16 @@
 //! `docs/TIE-LANGUAGE.md` has the language and the rules. `specs/Front.antt` says what is answered.
 #![tactic(auto)]
 
-ghost use Rattle.std.specs.Prelude.{◌≡◌, ◌≤◌, ℕ, List, length, codes, IfOk, Err};
+ghost use Rattle.std.specs.Prelude.{◌≡◌, ◌≤◌, ℕ, length, IfOk, Err};
 ghost use Rattle.tie_lexer.specs.declared.Token.{Token};
-ghost use Rattle.tie_lexer.specs.Tokens.{AreTokens, IsInText, bytes_of};
-ghost use Rattle.std.specs.Str.{bytes_eq};
+ghost use Rattle.tie_lexer.specs.Tokens.{AreTokens};
 ghost use Rattle.tie_grammar.specs.declared.tree.Tree.{Tree};
 ghost use Rattle.tie_ast.specs.Parsing.{IsTreeOf};
 ghost use Rattle.tie_rules.specs.RuleBook as book;
 ghost use Rattle.tie_rules.specs.Least.{IsFirst};
 ghost use Rattle.tie_desc.specs.Description.{Description};
 ghost use Rattle.tie_check.specs.Checked.{Accepted};
-ghost use Rattle.tie_front.specs.Front.{IsDescriptionOf, IsRefused, IsAloneOf, IsRefusedAlone, HasNoQueues, queue_place};
+ghost use Rattle.tie_front.specs.Front.{IsDescriptionOf, IsRefused};
 
 mod refusal;
 #[cfg(test)]
@@ -24,7 +23,7 @@ use std::alloc::Global;
 use tie_ast::{ParseRefusal, parse};
 use tie_check::{CheckRefusal, check};
 use tie_desc::Desc;
-use tie_lexer::{LexRefusal, Token, lex, tokens_stand};
+use tie_lexer::{LexRefusal, Token, lex};
 
 /// The description of a TIE text, or why it is refused: the first fault of its tokens, else of its grammar, else the least
 /// broken rule at its least place.
@@ -35,25 +34,6 @@ pub fn read_tie(alloc: Global, text: &[u8]) -> Result<Desc, TieRefusal>
 {
     let tokens = tokens_of(alloc, text)?;
     description_of(alloc, text, &tokens)
-}
-
-/// The same for a processor that stands alone: a text that declares a queue is refused at its first such declaration, as one
-/// that isn't parsed.
-pub fn read_alone(alloc: Global, text: &[u8]) -> Result<Desc, TieRefusal>
-    requires { length text.now ≤ 1048576 }
-    ensures description { IfOk result (IsAloneOf text.now) }
-    ensures refused { (rule : TieRule) (place : ℕ) → result ≡ Err (TieRefusal.Fault rule place) → IsRefusedAlone text.now rule place }
-{
-    let tokens = tokens_of(alloc, text)?;
-    let desc = description_of(alloc, text, &tokens)?;
-    if desc.ins.is_empty() && desc.outs.is_empty() {
-        Ok(desc)
-    } else {
-        Err(TieRefusal::Fault {
-            rule: TieRule::Parse,
-            place: queue_place(text, &tokens),
-        })
-    }
 }
 
 fn tokens_of(alloc: Global, text: &[u8]) -> Result<Vec<Token>, TieRefusal>
@@ -95,27 +75,4 @@ fn description_of(alloc: Global, text: &[u8], tokens: &[Token]) -> Result<Desc, 
         }),
         Err(CheckRefusal::NoMemory) => Err(TieRefusal::NoMemory),
     }
-}
-
-// Whether a token is the word `queue`.
-fn is_queue(text: &[u8], token: &Token) -> bool
-    requires { IsInText text.now token.now }
-    ensures { result ≡ bytes_eq (bytes_of text.now token.now) (codes "queue") }
-{
-    &text[token.start as usize..token.end as usize] == b"queue".as_slice()
-}
-
-// The place of the first word `queue`, the text's length where there is none.
-fn queue_place(text: &[u8], tokens: &[Token]) -> u32
-    requires size { length text.now ≤ 1048576 }
-    requires tokens { AreTokens text.now tokens.now }
-    ensures { result ≡ queue_place text.now tokens.now }
-{
-    tokens_stand();
-    for token in tokens {
-        if is_queue(text, token) {
-            return token.start;
-        }
-    }
-    text.len() as u32
 }

@@ -1,4 +1,4 @@
-use crate::{TieRefusal, read_alone, read_tie, rule_name};
+use crate::{TieRefusal, read_tie, rule_name};
 use std::alloc::Global;
 use std::test::Fail;
 
@@ -224,16 +224,5 @@ fn rows(rt: HostRuntime) -> Result<(), Fail> {
     for (number, row) in ROWS.iter().enumerate() {
         assert!(rt; holds(rt.alloc(), row), "row {number}");
     }
-    Ok(())
-}
-
-#[test]
-fn queues(rt: HostRuntime) -> Result<(), Fail> {
-    let text = b"state S 8 queue Q 8 in";
-    let refused = match read_alone(rt.alloc(), text) {
-        Err(TieRefusal::Fault { rule, place }) => rule_name(rule) == "Parse" && place == 10,
-        _ => false,
-    };
-    assert!(rt; refused);
     Ok(())
 }

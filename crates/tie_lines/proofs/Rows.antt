@@ -1,7 +1,7 @@
 -- The definitions on worked rows.
 use Rattle.std.proofs.Common.{◌≡◌, codes, [], ◌∷◌, refl}
 use Rattle.std.specs.Fmt as printed
-use Rattle.tie_report.specs.Digits.{hex_digits}
+use Rattle.core_text.specs.Digits.{hex_digits}
 use Rattle.tie_lines.specs.Lines.{operation_code, operation_lines, format_lines}
 
 -- the first operation, the second one, and the 17th

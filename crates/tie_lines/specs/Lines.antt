@@ -6,7 +6,7 @@ use Rattle.tie_desc.specs.Spelling.{op_word}
 use Rattle.tie_desc.specs.declared.declarations.OpDecl.{OpDecl}
 use Rattle.tie_desc.specs.declared.formats.FormatDecl.{FormatDecl}
 use Rattle.tie_desc.specs.declared.formats.Code.TheVariants.{Op}
-use Rattle.tie_report.specs.Digits.{hex_digits}
+use Rattle.core_text.specs.Digits.{hex_digits}
 
 -- the 24 bits of the operation of a number, with 0 in its fields
 abbrev pub operation_code : ℕ → ℕ

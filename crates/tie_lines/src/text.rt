@@ -1,11 +1,11 @@
 ghost use Rattle.std.specs.Prelude.{◌≡◌, ◌++◌, ◌+◌, ◌*◌, ◌/◌, ◌%◌, ◌<◌, ◌≤◌, IfOk, OnOk, codes, string_bytes, length};
 ghost use Rattle.std.specs.Fmt.{decimal};
-ghost use Rattle.tie_report.specs.Digits.{hex_digits};
+ghost use Rattle.core_text.specs.Digits.{hex_digits};
 ghost use Rattle.tie_lines.specs.Lines.{check_text, image_text, operation_code, operation_lines, format_lines};
 
+use core_text::push_hex;
 use std::alloc::{AllocError, Global};
 use tie_desc::{Desc, FormatDecl, OpDecl};
-use tie_report::push_hex;
 
 /// What an accepted text declares: its operations with their codes, and its formats.
 pub fn check_text(alloc: Global, desc: &Desc) -> Result<String, AllocError>

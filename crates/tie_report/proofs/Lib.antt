@@ -1,3 +1,4 @@
-pub mod HexDigits
-pub mod Lines
+pub mod Found
+pub mod Needed
+pub mod Rest
 mod Rows

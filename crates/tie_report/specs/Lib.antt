@@ -1,3 +1,2 @@
-pub mod Digits
+pub mod Standing
 pub mod Report
-pub mod Shape

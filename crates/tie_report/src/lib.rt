@@ -1,12 +1,21 @@
-//! The report of a processor, as lines of text.
+//! The report of a network at the end of a run: its processors, queues and collectors, and how the run ended.
 //!
-//! `docs/REPORT.md` describes it for a user, `specs/Report.antt` is the text as one list of bytes.
+//! `docs/REPORT.md` describes it for a user, `specs/Report.antt` has it as one list of bytes, `specs/Standing.antt` says
+//! how a processor stands.
 #![tactic(auto)]
 
-mod digits;
+mod collectors;
+mod cores;
+mod outcome;
+mod queues;
+mod standing;
 #[cfg(test)]
 mod tests;
-mod text;
+mod waiting;
+mod whole;
+mod words;
 
-pub use digits::push_hex;
-pub use text::{push_core, report};
+pub use net_ref::NoMemory;
+pub use outcome::word;
+pub use standing::Standing;
+pub use whole::report;

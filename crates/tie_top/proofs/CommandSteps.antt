@@ -1,16 +1,25 @@
 -- From what a command means to what the words mean.
-use Rattle.std.proofs.Common.{◌≡◌, ◌⊎◌, ℕ, List, Result, Ok, Err, refl, ap, inl, inr}
+use Rattle.std.proofs.Common.{◌≡◌, ◌⊎◌, ℕ, List, Ok, Err, refl, ap, inl, inr}
 use Rattle.tie_desc.specs.Description.{Description}
-use Rattle.tie_words.specs.Words.{Meant, Check, Asm, Dis, Exec, ExecTie, Accepts, WrongAt}
-use Rattle.tie_top.specs.declared.refusal.Refusal.{Refusal}
-use Rattle.tie_top.specs.declared.refusal.Refusal.TheVariants.{Usage, NoMemory}
+use Rattle.tie_words.specs.Words.{Meant, Check, Asm, Dis, Exec, ExecTie, Ref, Strict, Accepts, WrongAt}
+use Rattle.tie_files.specs.declared.refusal.Refusal.{Refusal}
+use Rattle.tie_files.specs.declared.refusal.Refusal.TheVariants.{Usage, NoMemory}
 use Rattle.xt_dis.specs.Listing.{Lists}
 use Rattle.tie_lines.specs.Lines.{image_text}
 use Rattle.tie_top.specs.declared.report.Report.{Report}
-use Rattle.tie_top.specs.Files.{Shelved, IsTie, IsAlone, IsHex, IsSource, Source, Refuses, RefusesTie, RefusesAlone, RefusesHex, RefusesSource, IsWrong}
-use Rattle.tie_top.specs.Meaning.{Verdict, Reports, bare, done, CommandMeans, Means, UnlessMemory}
-use Rattle.tie_top.specs.Parts.{Judges}
-use Rattle.tie_top.proofs.Steps.{Within, wrong_within, tie_within, hex_within, alone_within, source_within, wrong_as}
+use Rattle.net_parts.specs.declared.parts.Net.{Net}
+use Rattle.net_parts.specs.declared.ends.RunEnd.{RunEnd}
+use Rattle.net_ref.specs.Reference.{IsReference, IsStrict}
+use Rattle.net_load.specs.Loaded.{IsNetOf, bare}
+use Rattle.net_load.specs.Steps.{IsRefusedNet}
+use Rattle.tie_files.specs.Files.{Shelved, IsTie, IsHex, IsSource, RefusesTie, RefusesHex, RefusesSource, IsWrong}
+use Rattle.tie_top.specs.Files.{RefusesBy}
+use Rattle.tie_desc.specs.Fetching.{IsImage}
+use Rattle.net_desc.specs.Workers.{Loaded}
+use Rattle.net_desc.specs.Alone.{IsAlone}
+use Rattle.tie_top.specs.Meaning.{Verdict, Reports, ReportsAt, reported, done, CommandMeans, Means, UnlessMemory}
+use Rattle.tie_files.specs.Parts.{Judges}
+use Rattle.tie_files.proofs.Steps.{Within, wrong_within, tie_within, hex_within, source_within, wrong_as}
 
 -- the verdict of a command is that of its words
 pub accepted : (s : Shelved) (words : List (List ℕ)) (command : Meant) (v : Verdict)
@@ -40,9 +49,9 @@ first_err small s hex tie e w (inl p) = inl (ap Err p)
 first_err small s hex tie e w (inr h) = inr (inl (wrong_within small s w hex (RefusesHex hex) e h))
 
 pub second_err : (one two s : Shelved) (hex tie image : List ℕ) (e : Refusal) → Within one s → Within two s → IsHex one hex image
-    → (e ≡ NoMemory) ⊎ IsWrong two tie (RefusesAlone tie) e → UnlessMemory (CommandMeans s (ExecTie hex tie)) (Err e)
+    → (e ≡ NoMemory) ⊎ IsWrong two tie (RefusesTie tie) e → UnlessMemory (CommandMeans s (ExecTie hex tie)) (Err e)
 second_err one two s hex tie image e v w h (inl p) = inl (ap Err p)
-second_err one two s hex tie image e v w h (inr k) = inr (inr ((image, hex_within one s v hex image h), inl (wrong_within two s w tie (RefusesAlone tie) e k)))
+second_err one two s hex tie image e v w h (inr k) = inr (inr ((image, hex_within one s v hex image h), inl (wrong_within two s w tie (RefusesTie tie) e k)))
 
 -- the report of a run, or want of memory
 pub exec_ok : (s : Shelved) (hex image : List ℕ) (r : Verdict) → IsHex s hex image → Judges (Reports bare image) (λ refusal. ⊥) r → UnlessMemory (CommandMeans s (Exec hex)) r
@@ -50,9 +59,9 @@ exec_ok s hex image (Ok report) h runs = inr (image, h, runs)
 exec_ok s hex image (Err e) h (inl p) = inl (ap Err p)
 exec_ok s hex image (Err e) h (inr none) = absurd none
 
-pub exec_tie_ok : (one two s : Shelved) (hex tie image : List ℕ) (d : Description) (r : Verdict) → Within one s → Within two s → IsHex one hex image → IsAlone two tie d
+pub exec_tie_ok : (one two s : Shelved) (hex tie image : List ℕ) (d : Description) (r : Verdict) → Within one s → Within two s → IsHex one hex image → IsTie two tie d
     → Judges (Reports d image) (λ refusal. ⊥) r → UnlessMemory (CommandMeans s (ExecTie hex tie)) r
-exec_tie_ok one two s hex tie image d (Ok report) v w h k runs = inr (image, d, hex_within one s v hex image h, alone_within two s w tie d k, runs)
+exec_tie_ok one two s hex tie image d (Ok report) v w h k runs = inr (image, d, hex_within one s v hex image h, tie_within two s w tie d k, runs)
 exec_tie_ok one two s hex tie image d (Err e) v w h k (inl p) = inl (ap Err p)
 exec_tie_ok one two s hex tie image d (Err e) v w h k (inr none) = absurd none
 
@@ -76,7 +85,7 @@ asm_second one two s tie source d e v w h (inl p) = inl (ap Err p)
 asm_second one two s tie source d e v w h (inr k) =
     let is_tie : IsTie s tie d = tie_within one s v tie d h in
     let wrong = wrong_within two s w source (RefusesSource d source) e k in
-    inr (inr ((d, is_tie), inl (wrong_as s source (RefusesSource d source) (Refuses s (Source tie source)) e (λ text bad. (d, is_tie, bad)) wrong)))
+    inr (inr ((d, is_tie), inl (wrong_as s source (RefusesSource d source) (RefusesBy s tie source) e (λ text bad. (d, is_tie, bad)) wrong)))
 
 pub dis_second : (one two s : Shelved) (tie hex : List ℕ) (d : Description) (e : Refusal) → Within one s → Within two s → IsTie one tie d
     → (e ≡ NoMemory) ⊎ IsWrong two hex (RefusesHex hex) e → UnlessMemory (CommandMeans s (Dis tie hex)) (Err e)
@@ -95,3 +104,37 @@ pub dis_ok : (one two s : Shelved) (tie hex image : List ℕ) (d : Description) 
 dis_ok one two s tie hex image d (Ok report) v w h k (text, lists, p) = inr (d, image, tie_within one s v tie d h, hex_within two s w hex image k, text, lists, p)
 dis_ok one two s tie hex image d (Err e) v w h k (inl p) = inl (ap Err p)
 dis_ok one two s tie hex image d (Err e) v w h k (inr none) = absurd none
+
+-- ---- networks
+
+-- the network is refused, or memory ran out
+pub ref_err : (s : Shelved) (net : List ℕ) (e : Refusal) → (e ≡ NoMemory) ⊎ IsRefusedNet s net e → UnlessMemory (CommandMeans s (Ref net)) (Err e)
+ref_err s net e (inl p) = inl (ap Err p)
+ref_err s net e (inr h) = inr (inl h)
+
+pub strict_err : (s : Shelved) (net : List ℕ) (e : Refusal) → (e ≡ NoMemory) ⊎ IsRefusedNet s net e → UnlessMemory (CommandMeans s (Strict net)) (Err e)
+strict_err s net e (inl p) = inl (ap Err p)
+strict_err s net e (inr h) = inr (inl h)
+
+-- the report where a reference stops, or want of memory
+pub ref_ok : (s : Shelved) (net : List ℕ) (n : Net) (r : Verdict) → IsNetOf s net n → Judges (ReportsAt IsReference n) (λ refusal. ⊥) r → UnlessMemory (CommandMeans s (Ref net)) r
+ref_ok s net n (Ok report) h runs = inr (n, h, runs)
+ref_ok s net n (Err e) h (inl p) = inl (ap Err p)
+ref_ok s net n (Err e) h (inr none) = absurd none
+
+pub strict_ok : (s : Shelved) (net : List ℕ) (n : Net) (r : Verdict) → IsNetOf s net n → Judges (ReportsAt IsStrict n) (λ refusal. ⊥) r → UnlessMemory (CommandMeans s (Strict net)) r
+strict_ok s net n (Ok report) h runs = inr (n, h, runs)
+strict_ok s net n (Err e) h (inl p) = inl (ap Err p)
+strict_ok s net n (Err e) h (inr none) = absurd none
+
+-- the report at an end at which a run stops
+pub at_stop : (Stops : Net → RunEnd → Type 0) (net : Net) (end : RunEnd) (r : Verdict) → Stops net end → Judges (λ report. report ≡ reported net end) (λ refusal. ⊥) r
+    → Judges (ReportsAt Stops net) (λ refusal. ⊥) r
+at_stop Stops net end (Ok report) stops p = (end, stops, p)
+at_stop Stops net end (Err e) stops h = h
+
+-- that of the processor that stands alone
+pub of_alone : (k : Loaded) (net : Net) (r : Verdict) → IsImage k.0.desc k.1.items k.0.image.at → IsAlone k net → Judges (ReportsAt IsReference net) (λ refusal. ⊥) r
+    → Judges (Reports k.0.desc k.1.items) (λ refusal. ⊥) r
+of_alone k net (Ok report) image alone runs = (k, refl, refl, image, net, alone, runs)
+of_alone k net (Err e) image alone h = h

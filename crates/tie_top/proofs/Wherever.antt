@@ -12,18 +12,22 @@ use Rattle.asm_lines.specs.declared.refusal.AsmRule.{AsmRule}
 use Rattle.asm_lines.specs.Tokens.{Fault}
 use Rattle.xt_asm.specs.Assembly.{assembly}
 use Rattle.asm_law.proofs.SameDescription.{one_image}
-use Rattle.tie_front.proofs.Laws.{one_refusal, not_refused, one_refusal_alone, not_refused_alone}
-use Rattle.tie_words.specs.Words.{Meant, Check, Asm, Dis, Exec, ExecTie, Accepts, WrongAt}
+use Rattle.tie_front.proofs.Laws.{one_refusal, not_refused}
+use Rattle.load_law.proofs.Laws.{loaded_refused, one_refused, steady_net}
+use Rattle.tie_words.specs.Words.{Meant, Check, Asm, Dis, Exec, ExecTie, Ref, Strict, Accepts, WrongAt}
 use Rattle.tie_words.proofs.WordLemmas.{one_command, one_place}
 use Rattle.tie_top.specs.declared.status.Status.{Status}
 use Rattle.tie_top.specs.declared.status.Status.TheVariants as statuses
-use Rattle.tie_top.specs.declared.refusal.Refusal.{Refusal}
-use Rattle.tie_top.specs.declared.refusal.Refusal.TheVariants.{Usage, ReadFault, TooLong, TieRefused, AsmRefused, HexRefused, NoMemory}
+use Rattle.tie_files.specs.declared.refusal.Refusal.{Refusal}
+use Rattle.tie_files.specs.declared.refusal.Refusal.TheVariants.{Usage, ReadFault, TooLong, TieRefused, AsmRefused, HexRefused, NetRefused, NoMemory}
 use Rattle.tie_top.specs.declared.report.Report.{Report}
-use Rattle.tie_top.specs.Files.{Shelved, IsTextOf, IsTie, File, Tie, Alone, Hex, Source, files, name_of, IsAccepted, Refuses, IsWrong, ReadFails, IsTooLong, TextIsWrong, FirstWrong}
+use Rattle.net_toml.specs.declared.refusal.NetRule.{NetRule}
+use Rattle.net_load.specs.Told.{IsTold, IsSteady, IsToldNet}
+use Rattle.tie_files.specs.Files.{Shelved, IsTextOf, IsTie, IsWrong, ReadFails, IsTooLong, TextIsWrong, RefusesTie, RefusesHex}
+use Rattle.tie_top.specs.Files.{File, Tie, Hex, Source, Network, files, IsAccepted, RefusesBy, IsWrongFile, FirstWrong}
 use Rattle.tie_top.specs.Meaning.{Yields}
 use Rattle.tie_top.specs.Delivery.{Sunk, Delivered, Reported, Wanted}
-use Rattle.tie_top.specs.Answers.{Call, IsRight, AreTold, FailsToRead, MustRefuse, AreAccepted, Shows, NoneRose, IsComplete}
+use Rattle.tie_top.specs.Answers.{Call, IsRight, AreTold, FailsToRead, MustRefuse, AreAccepted, Shows, IsSteadyFile, NoneRose, IsComplete}
 use Rattle.tie_top.proofs.Writing.{Grew-nothing}
 
 -- ---- want of memory
@@ -71,9 +75,6 @@ answered c (v, inr (inr (place, wrong, p)), d) command a = absurd (wrong.refused
 
 -- ---- one file
 
-abbrev IsTold : Shelved → List ℕ → Type 0
-IsTold s name = (text : List ℕ) × (s.holds name ≡ Some text)
-
 -- the refusal is a fault of reading
 abbrev IsReadFault : Refusal → Type 0
 IsReadFault refusal = (name : List ℕ) × (refusal ≡ ReadFault name)
@@ -88,18 +89,33 @@ not_longer s name told a front e p q =
     let short : length told ≤ 1048576 = rw same p.0 in
     omega arith
 
--- a file is told, and of a source its TIE text too
+-- a told file whose text isn't refused is wrong only where its read fails
+kept_wrong : (s : Shelved) (name : List ℕ) (Refuses : List ℕ → Refusal → Type 0) (text : List ℕ) (e : Refusal)
+    → IsTold s name → IsTextOf s name text → ¬ Refuses text e → IsWrong s name Refuses e → IsReadFault e
+kept_wrong s name Refuses text e told read fine (ReadFails p rose) = (name, p)
+kept_wrong s name Refuses text e told read fine (IsTooLong p front longer) = absurd (not_longer s name told.0 text front told.1 read longer)
+kept_wrong s name Refuses text e told read fine (TextIsWrong other also bad) =
+    absurd (fine (subst (λ t. Refuses t e) (same_text s name told.0 other text told.1 also read) bad))
+
+-- two refusals of a told file are one, or one is a fault of reading, where a text is refused in one way
+one_of : (s : Shelved) (name : List ℕ) (Refuses : List ℕ → Refusal → Type 0) (e f : Refusal)
+    → IsTold s name → ((text : List ℕ) → Refuses text e → Refuses text f → e ≡ f) → IsWrong s name Refuses e → IsWrong s name Refuses f
+    → (e ≡ f) ⊎ IsReadFault e ⊎ IsReadFault f
+one_of s name Refuses e f told one (ReadFails p rose) b = inr (inl (name, p))
+one_of s name Refuses e f told one (IsTooLong p front longer) (ReadFails q rose) = inr (inr (name, q))
+one_of s name Refuses e f told one (IsTooLong p front longer) (IsTooLong q other also) = inl (p ∙ sym q)
+one_of s name Refuses e f told one (IsTooLong p front longer) (TextIsWrong text read bad) = absurd (not_longer s name told.0 text front told.1 read longer)
+one_of s name Refuses e f told one (TextIsWrong text read bad) (ReadFails q rose) = inr (inr (name, q))
+one_of s name Refuses e f told one (TextIsWrong text read bad) (IsTooLong q other also) = absurd (not_longer s name told.0 text other told.1 read also)
+one_of s name Refuses e f told one (TextIsWrong a read bad) (TextIsWrong b also nor) =
+    inl (one a bad (subst (λ t. Refuses t f) (same_text s name told.0 b a told.1 also read) nor))
+
+-- a file is told, of a source its TIE text too, and of a network the files that it names
 abbrev IsReady : Shelved → File → Type 0
 IsReady s (Tie name) = IsTold s name
-IsReady s (Alone name) = IsTold s name
 IsReady s (Hex name) = IsTold s name
 IsReady s (Source tie name) = IsTold s tie × IsTold s name
-
-told_of : (s : Shelved) (file : File) → IsReady s file → IsTold s (name_of file)
-told_of s (Tie name) ready = ready
-told_of s (Alone name) ready = ready
-told_of s (Hex name) ready = ready
-told_of s (Source tie name) ready = ready.1
+IsReady s (Network name) = IsToldNet s name
 
 -- a source has one image, or one fault, by the description of its TIE text
 one_source : (s : Shelved) (tie : List ℕ) (d e : Description) (source : List ℕ) → IsTold s tie → IsTie s tie d → IsTie s tie e → assembly d source ≡ assembly e source
@@ -110,25 +126,15 @@ one_source s tie d e source told h k =
 not_both : (image : List ℕ) (fault : Fault) (x : Result (List ℕ) Fault) → x ≡ Ok image → x ≡ Err fault → ⊥
 not_both image fault x p q = let both : Ok image ≡ Err fault = sym p ∙ q in absurd cc
 
--- what a file accepted has: its text isn't refused
-accepted_text : (s : Shelved) (file : File) → IsReady s file → IsAccepted s file → (text : List ℕ) × IsTextOf s (name_of file) text × ((e : Refusal) → ¬ Refuses s file text e)
-accepted_text s (Tie name) ready (d, h) = (h.text, h.read, (λ e. λ (rule, place, bad, p). not_refused h.text d rule place h.is bad))
-accepted_text s (Alone name) ready (d, h) = (h.text, h.read, (λ e. λ (rule, place, bad, p). not_refused_alone h.text d rule place h.is bad))
-accepted_text s (Hex name) ready (image, h) = (h.text, h.read, (λ e. λ (rule, place, bad, p). let both : Ok image ≡ Err (rule, place) = sym h.is ∙ bad in absurd cc))
-accepted_text s (Source tie name) ready (d, image, h, k) =
-    (k.text, k.read, (λ e. λ (f, g, (rule, line, column, bad, p)). not_both image (rule, line, column) (assembly d k.text) k.is (one_source s tie d f k.text ready.0 h g ∙ bad)))
-
 -- a file that is told and accepted is wrong only where its read fails
-accepted_wrong : (s : Shelved) (file : File) (e : Refusal) → IsReady s file → IsAccepted s file → IsWrong s (name_of file) (Refuses s file) e → IsReadFault e
-accepted_wrong s file e ready a (ReadFails p rose) = (name_of file, p)
-accepted_wrong s file e ready a (IsTooLong p front longer) =
-    let told = told_of s file ready in
-    let h = accepted_text s file ready a in absurd (not_longer s (name_of file) told.0 h.0 front told.1 h.1 longer)
-accepted_wrong s file e ready a (TextIsWrong text read bad) =
-    let told = told_of s file ready in
-    let h = accepted_text s file ready a in
-    let same : text ≡ h.0 = same_text s (name_of file) told.0 text h.0 told.1 read h.1 in
-    absurd (h.2 e (subst (λ t. Refuses s file t e) same bad))
+accepted_wrong : (s : Shelved) (file : File) (e : Refusal) → IsReady s file → IsAccepted s file → IsWrongFile s file e → IsReadFault e
+accepted_wrong s (Tie name) e ready (d, h) wrong = kept_wrong s name (RefusesTie name) h.text e ready h.read (λ (rule, place, bad, p). not_refused h.text d rule place h.is bad) wrong
+accepted_wrong s (Hex name) e ready (image, h) wrong =
+    kept_wrong s name (RefusesHex name) h.text e ready h.read (λ (rule, place, bad, p). let both : Ok image ≡ Err (rule, place) = sym h.is ∙ bad in absurd cc) wrong
+accepted_wrong s (Source tie name) e ready (d, image, h, k) wrong =
+    kept_wrong s name (RefusesBy s tie name) k.text e ready.1 k.read
+    (λ (f, g, (rule, line, column, bad, p)). not_both image (rule, line, column) (assembly d k.text) k.is (one_source s tie d f k.text ready.0 h g ∙ bad)) wrong
+accepted_wrong s (Network name) e ready (net, h) wrong = loaded_refused s name net e ready h wrong
 
 -- a text is refused in one way
 same_fault : (a b : HexRule × ℕ) (x : Result (List ℕ) (HexRule × ℕ)) → x ≡ Err a → x ≡ Err b → a ≡ b
@@ -137,30 +143,26 @@ same_fault a b x p q = cc
 same_asm : (a b : Fault) (x : Result (List ℕ) Fault) → x ≡ Err a → x ≡ Err b → a ≡ b
 same_asm a b x p q = cc
 
-one_way : (s : Shelved) (file : File) (text : List ℕ) (e f : Refusal) → IsReady s file → Refuses s file text e → Refuses s file text f → e ≡ f
-one_way shelf (Tie name) text e f ready (r, p, a, is) (s, q, b, also) =
+one_tie : (name text : List ℕ) (e f : Refusal) → RefusesTie name text e → RefusesTie name text f → e ≡ f
+one_tie name text e f (r, p, a, is) (s, q, b, also) =
     let one = one_refusal text r s p q a b in is ∙ ap (λ z. TieRefused name z p) one.rule ∙ ap (λ z. TieRefused name s z) one.place ∙ sym also
-one_way shelf (Alone name) text e f ready (r, p, a, is) (s, q, b, also) =
-    let one = one_refusal_alone text r s p q a b in is ∙ ap (λ z. TieRefused name z p) one.rule ∙ ap (λ z. TieRefused name s z) one.place ∙ sym also
-one_way shelf (Hex name) text e f ready (r, p, a, is) (s, q, b, also) =
+
+one_hex : (name text : List ℕ) (e f : Refusal) → RefusesHex name text e → RefusesHex name text f → e ≡ f
+one_hex name text e f (r, p, a, is) (s, q, b, also) =
     let one : (r, p) ≡ (s, q) = same_fault (r, p) (s, q) (hex_bytes 65536 text) a b in
     is ∙ ap (λ (z : HexRule × ℕ). HexRefused name z.0 z.1) one ∙ sym also
-one_way shelf (Source tie name) text e f ready (d, h, (r, l, k, a, is)) (d2, h2, (r2, l2, k2, b, also)) =
-    let one : (r, l, k) ≡ (r2, l2, k2) = same_asm (r, l, k) (r2, l2, k2) (assembly d text) a (one_source shelf tie d d2 text ready.0 h h2 ∙ b) in
+
+one_asm : (s : Shelved) (tie name text : List ℕ) (e f : Refusal) → IsTold s tie → RefusesBy s tie name text e → RefusesBy s tie name text f → e ≡ f
+one_asm s tie name text e f told (d, h, (r, l, k, a, is)) (d2, h2, (r2, l2, k2, b, also)) =
+    let one : (r, l, k) ≡ (r2, l2, k2) = same_asm (r, l, k) (r2, l2, k2) (assembly d text) a (one_source s tie d d2 text told h h2 ∙ b) in
     is ∙ ap (λ (z : Fault). AsmRefused name z.0 z.1 z.2) one ∙ sym also
 
 -- two refusals of a told file are one, or one is a fault of reading
-one_wrong : (s : Shelved) (file : File) (e f : Refusal) → IsReady s file → IsWrong s (name_of file) (Refuses s file) e → IsWrong s (name_of file) (Refuses s file) f
-    → (e ≡ f) ⊎ IsReadFault e ⊎ IsReadFault f
-one_wrong s file e f ready (ReadFails p rose) b = inr (inl (name_of file, p))
-one_wrong s file e f ready (IsTooLong p front longer) (ReadFails q rose) = inr (inr (name_of file, q))
-one_wrong s file e f ready (IsTooLong p front longer) (IsTooLong q other also) = inl (p ∙ sym q)
-one_wrong s file e f ready (IsTooLong p front longer) (TextIsWrong text read bad) = let told = told_of s file ready in absurd (not_longer s (name_of file) told.0 text front told.1 read longer)
-one_wrong s file e f ready (TextIsWrong text read bad) (ReadFails q rose) = inr (inr (name_of file, q))
-one_wrong s file e f ready (TextIsWrong text read bad) (IsTooLong q other also) = let told = told_of s file ready in absurd (not_longer s (name_of file) told.0 text other told.1 read also)
-one_wrong s file e f ready (TextIsWrong a read bad) (TextIsWrong b also nor) =
-    let told = told_of s file ready in
-    inl (one_way s file a e f ready bad (subst (λ t. Refuses s file t f) (same_text s (name_of file) told.0 b a told.1 also read) nor))
+one_wrong : (s : Shelved) (file : File) (e f : Refusal) → IsReady s file → IsWrongFile s file e → IsWrongFile s file f → (e ≡ f) ⊎ IsReadFault e ⊎ IsReadFault f
+one_wrong s (Tie name) e f ready a b = one_of s name (RefusesTie name) e f ready (λ text. one_tie name text e f) a b
+one_wrong s (Hex name) e f ready a b = one_of s name (RefusesHex name) e f ready (λ text. one_hex name text e f) a b
+one_wrong s (Source tie name) e f ready a b = one_of s name (RefusesBy s tie name) e f ready.1 (λ text. one_asm s tie name text e f ready.0) a b
+one_wrong s (Network name) e f ready a b = one_refused s name e f ready a b
 
 -- ---- all files
 
@@ -178,6 +180,8 @@ ready_of s (Asm tie source) told = (told.0, ((told.0, told.1.0), tt))
 ready_of s (Dis tie hex) told = told
 ready_of s (Exec hex) told = told
 ready_of s (ExecTie hex tie) told = told
+ready_of s (Ref net) told = told
+ready_of s (Strict net) told = told
 
 one_first : (s : Shelved) (fs : List File) (e f : Refusal) → AreReady s fs → IsSettled e → FirstWrong s fs e → FirstWrong s fs f → (e ≡ f) ⊎ IsReadFault f
 one_first s [] e f told settled a b = absurd a
@@ -204,6 +208,8 @@ yields_accepted s (Asm tie source) report (d, image, h, k, p) = ((d, h), ((d, im
 yields_accepted s (Dis tie hex) report (d, image, h, k, text, l, p) = ((d, h), ((image, k), tt))
 yields_accepted s (Exec hex) report (image, h, r) = ((image, h), tt)
 yields_accepted s (ExecTie hex tie) report (image, d, h, k, r) = ((image, h), ((d, k), tt))
+yields_accepted s (Ref net) report (n, h, r) = ((n, h), tt)
+yields_accepted s (Strict net) report (n, h, r) = ((n, h), tt)
 
 -- a fault of reading that was answered
 fails : (c : Call) (command : Meant) (refusal : Refusal) → IsReadFault refusal → FirstWrong c.shelf (files command) refusal → Delivered c.out c.err (Err refusal) c.status → FailsToRead c command
@@ -234,6 +240,9 @@ text_refused_where c r name rule place = must_refuse c r (HexRefused name rule p
 pub asm_refused_where : (c : Call) → IsRight c → (name : List ℕ) (rule : AsmRule) (line column : ℕ) → MustRefuse c (AsmRefused name rule line column)
 asm_refused_where c r name rule line column = must_refuse c r (AsmRefused name rule line column) (λ (n, p). absurd cc)
 
+pub net_refused_where : (c : Call) → IsRight c → (name : List ℕ) (rule : NetRule) (key : List ℕ) → MustRefuse c (NetRefused name rule key)
+net_refused_where c r name rule key = must_refuse c r (NetRefused name rule key) (λ (n, p). absurd cc)
+
 pub report_where : (c : Call) (status : Status) → IsRight c → (command : Meant) → Accepts c.words command → AreTold c.shelf (files command) → AreAccepted c.shelf (files command)
     → ((report : Report) → Yields c.shelf command report → report.status ≡ status)
     → ((report : Report) × (report.status ≡ status) × Yields c.shelf command report × Delivered c.out c.err (Ok report) c.status)
@@ -248,15 +257,22 @@ report_where c status r command a told fine all = at (answered c r command a)
     at (Wants out) = inr (inr out.status)
 
 -- no read failed, so no fault of reading is the answer
-none_failed : (s : Shelved) (fs : List File) (name : List ℕ) → NoneRose s fs → FirstWrong s fs (ReadFault name) → ⊥
-none_failed s [] name none h = h
-none_failed s (file ∷ fs) name none (inl (ReadFails p rose)) = none.0 rose
-none_failed s (file ∷ fs) name none (inl (IsTooLong p front longer)) = absurd cc
-none_failed s (Tie n ∷ fs) name none (inl (TextIsWrong text read (rule, place, h, p))) = absurd cc
-none_failed s (Alone n ∷ fs) name none (inl (TextIsWrong text read (rule, place, h, p))) = absurd cc
-none_failed s (Hex n ∷ fs) name none (inl (TextIsWrong text read (rule, place, h, p))) = absurd cc
-none_failed s (Source tie n ∷ fs) name none (inl (TextIsWrong text read (d, h, (rule, line, column, k, p)))) = absurd cc
-none_failed s (file ∷ fs) name none (inr h) = none_failed s fs name none.1 h.1
+wrong_steady : (s : Shelved) (file name : List ℕ) (Refuses : List ℕ → Refusal → Type 0) → ((text : List ℕ) → ¬ Refuses text (ReadFault name)) → IsSteady s file
+    → IsWrong s file Refuses (ReadFault name) → ⊥
+wrong_steady s file name Refuses none steady (ReadFails p rose) = steady rose
+wrong_steady s file name Refuses none steady (IsTooLong p front longer) = absurd cc
+wrong_steady s file name Refuses none steady (TextIsWrong text read bad) = none text bad
+
+file_steady : (s : Shelved) (file : File) (name : List ℕ) → IsReady s file → IsSteadyFile s file → IsWrongFile s file (ReadFault name) → ⊥
+file_steady s (Tie n) name ready steady h = wrong_steady s n name _ (λ text. λ (rule, place, h, p). absurd cc) steady h
+file_steady s (Hex n) name ready steady h = wrong_steady s n name _ (λ text. λ (rule, place, h, p). absurd cc) steady h
+file_steady s (Source tie n) name ready steady h = wrong_steady s n name _ (λ text. λ (d, h, (rule, line, column, k, p)). absurd cc) steady h
+file_steady s (Network n) name ready steady h = steady_net s n name ready steady h
+
+none_failed : (s : Shelved) (fs : List File) (name : List ℕ) → AreReady s fs → NoneRose s fs → FirstWrong s fs (ReadFault name) → ⊥
+none_failed s [] name ready none h = h
+none_failed s (file ∷ fs) name ready none (inl h) = file_steady s file name ready.0 none.0 h
+none_failed s (file ∷ fs) name ready none (inr h) = none_failed s fs name ready.1 none.1 h.1
 
 pub complete : (c : Call) → IsRight c → IsComplete c
 complete c r command a told fine steady sound = at (answered c r command a)
@@ -270,5 +286,5 @@ complete c r command a told fine steady sound = at (answered c r command a)
     at (Reports report y d) = reports report y d
     at (Refusing other h d) =
         let fault = none_first c.shelf (files command) other (ready_of c.shelf command told) fine h in
-        absurd (none_failed c.shelf (files command) fault.0 steady (subst (FirstWrong c.shelf (files command)) fault.1 h))
+        absurd (none_failed c.shelf (files command) fault.0 (ready_of c.shelf command told) steady (subst (FirstWrong c.shelf (files command)) fault.1 h))
     at (Wants out) = inr out.status

@@ -1,5 +1,5 @@
 -- The meaning of a call in one fact, and the cause of each status.
-use Rattle.std.specs.Prelude.{◌≡◌, ◌⊎◌, ℕ, List, [], ◌∷◌, map, string_bytes, Option, Some, Ok, Err}
+use Rattle.std.specs.Prelude.{◌≡◌, ◌⊎◌, ℕ, List, [], ◌∷◌, map, string_bytes, Option, Ok, Err}
 use Rattle.std.specs.declared.string.String.{String}
 use Rattle.tie_io.specs.Counts.{Rose}
 use Rattle.hex_text.specs.declared.hexadecimal.HexRule.{HexRule}
@@ -8,11 +8,14 @@ use Rattle.asm_lines.specs.declared.refusal.AsmRule.{AsmRule}
 use Rattle.tie_words.specs.Words.{Meant, Accepts, WrongAt}
 use Rattle.tie_top.specs.declared.status.Status.{Status}
 use Rattle.tie_top.specs.declared.status.Status.TheVariants as statuses
-use Rattle.tie_top.specs.declared.refusal.Refusal.{Refusal}
-use Rattle.tie_top.specs.declared.refusal.Refusal.TheVariants.{Usage, ReadFault, TooLong, TieRefused, AsmRefused, HexRefused}
+use Rattle.tie_files.specs.declared.refusal.Refusal.{Refusal}
+use Rattle.tie_files.specs.declared.refusal.Refusal.TheVariants.{Usage, ReadFault, TooLong, TieRefused, AsmRefused, HexRefused, NetRefused}
 use Rattle.tie_top.specs.declared.report.Report.{Report}
 use Rattle.tie_top.specs.Printing.{line_of}
-use Rattle.tie_top.specs.Files.{Shelved, shelved, File, files, name_of, IsAccepted, FirstWrong}
+use Rattle.net_toml.specs.declared.refusal.NetRule.{NetRule}
+use Rattle.tie_files.specs.Files.{Shelved, shelved}
+use Rattle.net_load.specs.Told.{IsTold, IsSteady, IsToldNet, IsSteadyNet}
+use Rattle.tie_top.specs.Files.{File, Tie, Hex, Source, Network, files, IsAccepted, FirstWrong}
 use Rattle.tie_top.specs.Meaning.{Verdict, Yields, Means, UnlessMemory}
 use Rattle.tie_top.specs.Delivery.{Sunk, sunk, Delivered, Whole, Faulted}
 
@@ -60,10 +63,16 @@ abbrev pub ReadFaultIsRight : Call → Type 0
 ReadFaultIsRight c =
     c.status ≡ statuses.ReadFault → (name : List ℕ) × Rose (c.shelf.before name) (c.shelf.after name) × IsRefusedSo c (ReadFault name)
 
--- the shelf tells the files
+-- the shelf tells a file, and of a network the files that it names
+abbrev pub IsToldFile : Shelved → File → Type 0
+IsToldFile s (Tie name) = IsTold s name
+IsToldFile s (Hex name) = IsTold s name
+IsToldFile s (Source tie name) = IsTold s name
+IsToldFile s (Network name) = IsToldNet s name
+
 abbrev pub AreTold : Shelved → List File → Type 0
 AreTold s [] = Unit {0}
-AreTold s (file ∷ rest) = ((text : List ℕ) × (s.holds (name_of file) ≡ Some text)) × AreTold s rest
+AreTold s (file ∷ rest) = IsToldFile s file × AreTold s rest
 
 -- reading a file of the command failed, and its count rose; all files before it are accepted
 abbrev pub FailsToRead : Call → Meant → Type 0
@@ -86,6 +95,12 @@ abbrev pub TieRefusedIsRight : Call → Type 0
 TieRefusedIsRight c =
     (c.status ≡ statuses.TieRefused → (name : List ℕ) × (rule : TieRule) × (place : ℕ) × IsRefusedSo c (TieRefused name rule place))
     × ((name : List ℕ) (rule : TieRule) (place : ℕ) → MustRefuse c (TieRefused name rule place))
+
+-- NetRefused: exactly where a network file is refused, or a file that it names breaks a rule of networks
+abbrev pub NetRefusedIsRight : Call → Type 0
+NetRefusedIsRight c =
+    (c.status ≡ statuses.NetRefused → (name : List ℕ) × (rule : NetRule) × (key : List ℕ) × IsRefusedSo c (NetRefused name rule key))
+    × ((name : List ℕ) (rule : NetRule) (key : List ℕ) → MustRefuse c (NetRefused name rule key))
 
 -- TextRefused: exactly where a text isn't hexadecimal text of at most 65,536 bytes
 abbrev pub TextRefusedIsRight : Call → Type 0
@@ -119,17 +134,21 @@ ReportIsRight c status =
     → ((report : Report) × (report.status ≡ status) × Yields c.shelf command report × Delivered c.out c.err (Ok report) c.status)
     ⊎ FailsToRead c command ⊎ (c.status ≡ statuses.NoMemory))
 
--- Done: exactly where the report is no processor's, or that of one that has halted
+-- Done: exactly where the report is no network's, or all processors have halted
 abbrev pub DoneIsRight : Call → Type 0
 DoneIsRight c = ReportIsRight c statuses.Done
 
--- Trapped: exactly where it is that of a processor that has trapped
+-- Trapped: exactly where a processor of the report has trapped
 abbrev pub TrappedIsRight : Call → Type 0
 TrappedIsRight c = ReportIsRight c statuses.Trapped
 
--- Unfinished: exactly where it is that of a processor that still runs, with its budget used up
+-- Unfinished: exactly where none has trapped, and one has used up its budget
 abbrev pub UnfinishedIsRight : Call → Type 0
 UnfinishedIsRight c = ReportIsRight c statuses.Unfinished
+
+-- Blocked: exactly where none has trapped or used up its budget, and one waits at a queue
+abbrev pub BlockedIsRight : Call → Type 0
+BlockedIsRight c = ReportIsRight c statuses.Blocked
 
 -- ---- what else may come
 
@@ -140,16 +159,16 @@ WriteFaultIsRight c =
     ((report : Report) × Means c.shelf c.words (Ok report) × Faulted c.out c.err report.text)
     ⊎ ((refusal : Refusal) × Means c.shelf c.words (Err refusal) × Faulted c.err c.out (line_of refusal))
 
--- no other status comes
-abbrev pub IsGiven : Status → Type 0
-IsGiven statuses.NetRefused = ⊥
-IsGiven statuses.Blocked = ⊥
-IsGiven others = Unit {0}
+-- no read of a file failed, and of a network none of the files that it names
+abbrev pub IsSteadyFile : Shelved → File → Type 0
+IsSteadyFile s (Tie name) = IsSteady s name
+IsSteadyFile s (Hex name) = IsSteady s name
+IsSteadyFile s (Source tie name) = IsSteady s name
+IsSteadyFile s (Network name) = IsSteadyNet s name
 
--- no read of a file failed
 abbrev pub NoneRose : Shelved → List File → Type 0
 NoneRose s [] = Unit {0}
-NoneRose s (file ∷ rest) = ¬ Rose (s.before (name_of file)) (s.after (name_of file)) × NoneRose s rest
+NoneRose s (file ∷ rest) = IsSteadyFile s file × NoneRose s rest
 
 -- completeness: files that are told and accepted, no fault of theirs and none of out give the command's report, or want of memory
 abbrev pub IsComplete : Call → Type 0

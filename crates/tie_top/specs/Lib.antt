@@ -3,4 +3,3 @@ pub mod Files
 pub mod Meaning
 pub mod Delivery
 pub mod Answers
-pub mod Parts

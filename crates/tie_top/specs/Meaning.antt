@@ -1,21 +1,25 @@
 -- What each command means: a report of its files, or the refusal of the first one that is wrong.
-use Rattle.std.specs.Prelude.{◌≡◌, ◌⊎◌, ℕ, List, [], Result, Ok, Err}
+use Rattle.std.specs.Prelude.{◌≡◌, ◌⊎◌, ℕ, false, List, Result, Ok, Err}
 use Rattle.tie_desc.specs.Description.{Description}
 use Rattle.tie_desc.specs.Fetching.{IsImage}
-use Rattle.tie_desc.specs.declared.bundle.Kit.{Kit}
-use Rattle.xt_state.specs.State.{State}
-use Rattle.xt_exec.specs.First.{first_state}
-use Rattle.xt_exec.specs.Run.{Stopped}
+use Rattle.net_parts.specs.declared.parts.Net.{Net}
+use Rattle.net_parts.specs.declared.ends.RunEnd.{RunEnd}
+use Rattle.net_desc.specs.Workers.{Loaded}
+use Rattle.net_desc.specs.Alone.{IsAlone}
+use Rattle.net_ref.specs.Reference.{IsReference, IsStrict}
+use Rattle.net_load.specs.Loaded.{IsNetOf, bare}
 use Rattle.xt_dis.specs.Listing.{Lists}
+use Rattle.tie_report.specs.Standing.{word}
 use Rattle.tie_report.specs.Report.{report_text}
 use Rattle.tie_lines.specs.Lines.{check_text, image_text}
-use Rattle.tie_words.specs.Words.{Meant, Check, Asm, Dis, Exec, ExecTie, Accepts, WrongAt}
+use Rattle.tie_words.specs.Words.{Meant, Check, Asm, Dis, Exec, ExecTie, Ref, Strict, Accepts, WrongAt}
+use Rattle.tie_files.specs.declared.refusal.Refusal.{Refusal}
+use Rattle.tie_files.specs.declared.refusal.Refusal.TheVariants.{Usage, NoMemory}
+use Rattle.tie_files.specs.Files.{Shelved, IsTie, IsHex, IsSource}
 use Rattle.tie_top.specs.declared.status.Status.TheVariants.{Done}
-use Rattle.tie_top.specs.declared.refusal.Refusal.{Refusal}
-use Rattle.tie_top.specs.declared.refusal.Refusal.TheVariants.{Usage, NoMemory}
 use Rattle.tie_top.specs.declared.report.Report.{Report}
-use Rattle.tie_top.specs.Printing.{end_status}
-use Rattle.tie_top.specs.Files.{Shelved, IsTie, IsAlone, IsHex, IsSource, files, FirstWrong}
+use Rattle.tie_top.specs.Printing.{outcome_status}
+use Rattle.tie_top.specs.Files.{files, FirstWrong}
 
 -- a verdict: the report, or the refusal
 abbrev pub Verdict : Type 0
@@ -26,21 +30,18 @@ Verdict = Result Report Refusal
 abbrev pub done : List ℕ → Report
 done text = record { status = Done; text = text }
 
--- the description of no declarations
-abbrev pub bare : Description
-bare = record { states = []; files = []; ranges = []; ops = []; formats = []; ins = []; outs = [] }
+-- the report of a network at an end
+abbrev pub reported : Net → RunEnd → Report
+reported net end = record { status = outcome_status (word net end); text = report_text net end false }
 
--- the run of an image with this description stops so, in 65,536 bytes of memory with a budget of 1,000,000 retirements
-abbrev pub Stops : Description → List ℕ → ℕ → State → Type 0
-Stops d image retired end =
-    (kit : Kit) × (kit.desc ≡ d) × IsImage d image kit.image.at × Stopped kit 1000000 (first_state d 65536 image) retired end
+-- the report of a network where a reference stops: the one without bounds, or the strict one
+abbrev pub ReportsAt : (Net → RunEnd → Type 0) → Net → Report → Type 0
+ReportsAt Stops net report = (end : RunEnd) × Stops net end × (report ≡ reported net end)
 
-abbrev pub reported : Description → ℕ → State → Report
-reported d retired end = record { status = end_status end.ending; text = report_text d 1000000 retired end }
-
--- the report of the run of an image to its stop
+-- the report of the one processor that runs an image with this description
 abbrev pub Reports : Description → List ℕ → Report → Type 0
-Reports d image report = (retired : ℕ) × (end : State) × Stops d image retired end × (report ≡ reported d retired end)
+Reports d image report =
+    (k : Loaded) × (k.0.desc ≡ d) × (k.1.items ≡ image) × IsImage d image k.0.image.at × (net : Net) × IsAlone k net × ReportsAt IsReference net report
 
 -- the report of a command all of whose files are accepted
 abbrev pub Yields : Shelved → Meant → Report → Type 0
@@ -49,7 +50,9 @@ Yields s (Asm tie source) report = (d : Description) × (image : List ℕ) × Is
 Yields s (Dis tie hex) report =
     (d : Description) × (image : List ℕ) × IsTie s tie d × IsHex s hex image × (text : List ℕ) × Lists d 0 image text × (report ≡ done text)
 Yields s (Exec hex) report = (image : List ℕ) × IsHex s hex image × Reports bare image report
-Yields s (ExecTie hex tie) report = (image : List ℕ) × (d : Description) × IsHex s hex image × IsAlone s tie d × Reports d image report
+Yields s (ExecTie hex tie) report = (image : List ℕ) × (d : Description) × IsHex s hex image × IsTie s tie d × Reports d image report
+Yields s (Ref net) report = (n : Net) × IsNetOf s net n × ReportsAt IsReference n report
+Yields s (Strict net) report = (n : Net) × IsNetOf s net n × ReportsAt IsStrict n report
 
 -- ---- commands
 

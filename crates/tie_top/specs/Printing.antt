@@ -1,8 +1,10 @@
 -- What is written: the line of each refusal, and the statuses.
 use Rattle.std.specs.Prelude.{ℕ, List, ◌++◌, codes}
 use Rattle.std.specs.Fmt.{decimal}
-use Rattle.xt_core.specs.declared.ending.Ending.{Ending}
-use Rattle.xt_core.specs.declared.ending.Ending.TheVariants as endings
+use Rattle.net_parts.specs.declared.outcome.Outcome.{Outcome}
+use Rattle.net_parts.specs.declared.outcome.Outcome.TheVariants as outcomes
+use Rattle.net_toml.specs.declared.refusal.NetRule.{NetRule}
+use Rattle.net_toml.specs.declared.refusal.NetRule.TheVariants as net
 use Rattle.hex_text.specs.declared.hexadecimal.HexRule.{HexRule}
 use Rattle.hex_text.specs.declared.hexadecimal.HexRule.TheVariants.{BadHex, OddHex, LongHex}
 use Rattle.tie_front.specs.RuleNames.{rule_name}
@@ -10,14 +12,15 @@ use Rattle.asm_lines.specs.declared.refusal.AsmRule.{AsmRule}
 use Rattle.asm_lines.specs.declared.refusal.AsmRule.TheVariants as asm
 use Rattle.tie_top.specs.declared.status.Status.{Status}
 use Rattle.tie_top.specs.declared.status.Status.TheVariants as statuses
-use Rattle.tie_top.specs.declared.refusal.Refusal.{Refusal}
-use Rattle.tie_top.specs.declared.refusal.Refusal.TheVariants.{Usage, ReadFault, TooLong, TieRefused, AsmRefused, HexRefused, NoMemory}
+use Rattle.tie_files.specs.declared.refusal.Refusal.{Refusal}
+use Rattle.tie_files.specs.declared.refusal.Refusal.TheVariants.{Usage, ReadFault, TooLong, TieRefused, AsmRefused, HexRefused, NetRefused, NoMemory}
 
--- the status of a report of a processor that stopped so; one that still runs has used up its budget
-abbrev pub end_status : Ending → Status
-end_status endings.Running = statuses.Unfinished
-end_status endings.Halted = statuses.Done
-end_status (endings.Trapped trap) = statuses.Trapped
+-- the status of the report of a network whose run ended so
+abbrev pub outcome_status : Outcome → Status
+outcome_status outcomes.Halted = statuses.Done
+outcome_status outcomes.Trapped = statuses.Trapped
+outcome_status outcomes.Unfinished = statuses.Unfinished
+outcome_status outcomes.Blocked = statuses.Blocked
 
 abbrev pub hex_rule_word : HexRule → List ℕ
 hex_rule_word BadHex = codes "BadHex"
@@ -39,6 +42,22 @@ asm_rule_word asm.SameDest = codes "SameDest"
 asm_rule_word asm.TooLong = codes "TooLong"
 asm_rule_word asm.Reach = codes "Reach"
 
+abbrev pub net_rule_word : NetRule → List ℕ
+net_rule_word net.Toml = codes "Toml"
+net_rule_word net.Key = codes "Key"
+net_rule_word net.Version = codes "Version"
+net_rule_word net.Range = codes "Range"
+net_rule_word net.TooMany = codes "TooMany"
+net_rule_word net.Name = codes "Name"
+net_rule_word net.Hex = codes "Hex"
+net_rule_word net.Image = codes "Image"
+net_rule_word net.End = codes "End"
+net_rule_word net.Twice = codes "Twice"
+net_rule_word net.Width = codes "Width"
+net_rule_word net.Unwired = codes "Unwired"
+net_rule_word net.Item = codes "Item"
+net_rule_word net.Core = codes "Core"
+
 -- the line of a refusal
 abbrev pub line_of : Refusal → List ℕ
 line_of (Usage word) = codes "usage: word " ++ decimal word ++ codes "\n"
@@ -48,6 +67,7 @@ line_of (TieRefused name rule place) = codes "tie refused: " ++ name ++ codes ":
 line_of (AsmRefused name rule line column) =
     codes "asm refused: " ++ name ++ codes ": " ++ asm_rule_word rule ++ codes " at " ++ decimal line ++ codes ":" ++ decimal column ++ codes "\n"
 line_of (HexRefused name rule place) = codes "hex refused: " ++ name ++ codes ": " ++ hex_rule_word rule ++ codes " at " ++ decimal place ++ codes "\n"
+line_of (NetRefused name rule key) = codes "net refused: " ++ name ++ codes ": " ++ net_rule_word rule ++ codes " at " ++ key ++ codes "\n"
 line_of NoMemory = codes "no memory\n"
 
 -- the status of a refusal
@@ -58,6 +78,7 @@ status_of (TooLong name) = statuses.TooLong
 status_of (TieRefused name rule place) = statuses.TieRefused
 status_of (AsmRefused name rule line column) = statuses.AsmRefused
 status_of (HexRefused name rule place) = statuses.TextRefused
+status_of (NetRefused name rule key) = statuses.NetRefused
 status_of NoMemory = statuses.NoMemory
 
 -- the number with which the program ends

@@ -6,9 +6,10 @@ ghost use Rattle.tie_top.specs.Delivery.{Delivered, Refused, Reported, sunk};
 
 use crate::Status;
 use crate::lines::line_of;
-use crate::refusal::Refusal;
 use crate::report::Report;
+use crate::status::status_of;
 use std::alloc::Global;
+use tie_files::Refusal;
 use tie_io::{PutFault, Sink};
 
 /// Writes the report to `out`, or the line of the refusal to `err`, and answers the status.
@@ -48,7 +49,7 @@ fn deliver_refusal<O: Sink>(alloc: Global, refusal: &Refusal, out: &mut O, err: 
         return want(err);
     };
     match err.put(line.as_bytes()) {
-        Ok(()) => refusal.status(),
+        Ok(()) => status_of(refusal),
         Err(PutFault::Failed) => Status::WriteFault,
         Err(PutFault::NoMemory) => want(err),
     }

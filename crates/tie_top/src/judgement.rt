@@ -1,13 +1,14 @@
 ghost use Rattle.std.specs.Prelude.{map, string_bytes};
-ghost use Rattle.tie_top.specs.Files.{shelved};
+ghost use Rattle.tie_files.specs.Files.{shelved};
 ghost use Rattle.tie_top.specs.Meaning.{UnlessMemory, CommandMeans, Means};
 ghost use Rattle.tie_words.specs.Reading.{seen};
 
-use crate::commands::{check, exec, exec_tie};
+use crate::commands::check;
 use crate::images::{asm, dis};
-use crate::refusal::Refusal;
+use crate::networks::{exec, exec_tie, reference, strict};
 use crate::report::Report;
 use std::alloc::Global;
+use tie_files::Refusal;
 use tie_io::Shelf;
 use tie_words::{Command, command_of};
 
@@ -32,5 +33,7 @@ fn obey<S: Shelf>(alloc: Global, command: Command<'_>, shelf: &mut S) -> Result<
         Command::Dis { tie, hex } => dis(alloc, tie, hex, shelf),
         Command::Exec { hex } => exec(alloc, hex, shelf),
         Command::ExecTie { hex, tie } => exec_tie(alloc, hex, tie, shelf),
+        Command::Ref { net } => reference(alloc, net, shelf),
+        Command::Strict { net } => strict(alloc, net, shelf),
     }
 }

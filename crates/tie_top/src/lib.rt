@@ -10,16 +10,13 @@ mod gate;
 mod images;
 mod judgement;
 mod lines;
-mod reading;
-mod refusal;
+mod networks;
 mod report;
 mod status;
-#[cfg(test)]
-mod tests;
-mod text;
-mod texts;
 mod top;
 
 pub use gate::{Gate, NoGate};
+pub use net_load::load_net;
 pub use status::Status;
+pub use tie_files::Refusal;
 pub use top::tie_top;

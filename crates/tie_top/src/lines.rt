@@ -1,10 +1,11 @@
 ghost use Rattle.std.specs.Prelude.{◌≡◌, ◌<◌, IfOk, length, string_bytes};
-ghost use Rattle.tie_top.specs.Printing.{line_of, hex_rule_word, asm_rule_word};
+ghost use Rattle.tie_top.specs.Printing.{line_of, hex_rule_word, asm_rule_word, net_rule_word};
 
-use crate::refusal::Refusal;
 use asm_lines::AsmRule;
 use hex_text::HexRule;
+use net_toml::NetRule;
 use std::alloc::{AllocError, Global};
+use tie_files::Refusal;
 use tie_front::{TieRule, rule_name};
 
 /// The line of a refusal, with its LF.
@@ -33,6 +34,9 @@ pub fn line_of(alloc: Global, refusal: &Refusal) -> Result<String, AllocError>
         } => asm_line(alloc, name.as_str(), *rule, *line, *column),
         Refusal::HexRefused { name, rule, place } => {
             hex_line(alloc, name.as_str(), *rule, *place)
+        }
+        Refusal::NetRefused { name, rule, key } => {
+            net_line(alloc, name.as_str(), *rule, key.as_str())
         }
         Refusal::NoMemory => String::from_str(alloc, "no memory\n"),
     }
@@ -74,6 +78,16 @@ fn hex_line(alloc: Global, name: &str, rule: HexRule, place: u32) -> Result<Stri
     Ok(line)
 }
 
+fn net_line(alloc: Global, name: &str, rule: NetRule, key: &str) -> Result<String, AllocError>
+    ensures { IfOk result (λ line. string_bytes line ≡ line_of (Refusal.NetRefused name.now rule key.now)) }
+{
+    let rule = net_rule_word(rule);
+    let mut line = format!(in alloc; "net refused: {name}: ")?;
+    line.push_str(rule)?;
+    write!(line, " at {key}\n")?;
+    Ok(line)
+}
+
 fn hex_rule_word(rule: HexRule) -> &'static str
     ensures { result.now ≡ hex_rule_word rule }
 {
@@ -101,5 +115,26 @@ fn asm_rule_word(rule: AsmRule) -> &'static str
         AsmRule::SameDest => "SameDest",
         AsmRule::TooLong => "TooLong",
         AsmRule::Reach => "Reach",
+    }
+}
+
+fn net_rule_word(rule: NetRule) -> &'static str
+    ensures { result.now ≡ net_rule_word rule }
+{
+    match rule {
+        NetRule::Toml => "Toml",
+        NetRule::Key => "Key",
+        NetRule::Version => "Version",
+        NetRule::Range => "Range",
+        NetRule::TooMany => "TooMany",
+        NetRule::Name => "Name",
+        NetRule::Hex => "Hex",
+        NetRule::Image => "Image",
+        NetRule::End => "End",
+        NetRule::Twice => "Twice",
+        NetRule::Width => "Width",
+        NetRule::Unwired => "Unwired",
+        NetRule::Item => "Item",
+        NetRule::Core => "Core",
     }
 }

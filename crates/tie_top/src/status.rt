@@ -1,4 +1,7 @@
 ghost use Rattle.std.specs.Prelude.{◌≡◌};
+ghost use Rattle.tie_top.specs.Printing.{status_of};
+
+use tie_files::Refusal;
 
 /// How a call ended.
 #[derive(Clone, Copy, Debug, PartialEq, Eq)]
@@ -15,7 +18,7 @@ pub enum Status {
     TieRefused,
     /// A source has no image.
     AsmRefused,
-    /// A network file is refused. No command gives it yet.
+    /// A network file is refused, or a file that it names breaks a rule of networks.
     NetRefused,
     /// A hexadecimal text is refused.
     TextRefused,
@@ -23,7 +26,7 @@ pub enum Status {
     Trapped,
     /// No processor of the report has trapped, and one has used up its budget.
     Unfinished,
-    /// A processor waits for a queue. No command gives it yet.
+    /// No processor of the report has trapped or used up its budget, and one waits at a queue.
     Blocked,
     /// A sink failed.
     WriteFault,
@@ -39,5 +42,21 @@ impl Status {
         ensures { result ≡ status_number self.now }
     {
         *self as u8
+    }
+}
+
+/// The status of a refusal.
+pub fn status_of(refusal: &Refusal) -> Status
+    ensures { result ≡ status_of refusal.now }
+{
+    match refusal {
+        Refusal::Usage { .. } => Status::Usage,
+        Refusal::ReadFault { .. } => Status::ReadFault,
+        Refusal::TooLong { .. } => Status::TooLong,
+        Refusal::TieRefused { .. } => Status::TieRefused,
+        Refusal::AsmRefused { .. } => Status::AsmRefused,
+        Refusal::HexRefused { .. } => Status::TextRefused,
+        Refusal::NetRefused { .. } => Status::NetRefused,
+        Refusal::NoMemory => Status::NoMemory,
     }
 }

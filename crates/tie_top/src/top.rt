@@ -1,5 +1,5 @@
-ghost use Rattle.tie_top.specs.Answers.{called, IsRight, IsGiven, IsComplete};
-ghost use Rattle.tie_top.specs.Answers.{UsageIsRight, ReadFaultIsRight, TooLongIsRight, TieRefusedIsRight, AsmRefusedIsRight, TextRefusedIsRight, DoneIsRight, TrappedIsRight, UnfinishedIsRight, WriteFaultIsRight};
+ghost use Rattle.tie_top.specs.Answers.{called, IsRight, IsComplete};
+ghost use Rattle.tie_top.specs.Answers.{UsageIsRight, ReadFaultIsRight, TooLongIsRight, TieRefusedIsRight, AsmRefusedIsRight, NetRefusedIsRight, TextRefusedIsRight, DoneIsRight, TrappedIsRight, UnfinishedIsRight, BlockedIsRight, WriteFaultIsRight};
 
 use crate::delivery::deliver;
 use crate::judgement::judge;
@@ -36,6 +36,8 @@ pub fn tie_top<R: Threads, S: Shelf, O: Sink, G: Gate>(
         words.now shelf.old shelf.new out.old out.new err.old err.new result) }
     ensures asm_refused { AsmRefusedIsRight (called S.holds S.faults O.written O.faults
         words.now shelf.old shelf.new out.old out.new err.old err.new result) }
+    ensures net_refused { NetRefusedIsRight (called S.holds S.faults O.written O.faults
+        words.now shelf.old shelf.new out.old out.new err.old err.new result) }
     ensures text_refused { TextRefusedIsRight (called S.holds S.faults O.written O.faults
         words.now shelf.old shelf.new out.old out.new err.old err.new result) }
     ensures done { DoneIsRight (called S.holds S.faults O.written O.faults
@@ -44,9 +46,10 @@ pub fn tie_top<R: Threads, S: Shelf, O: Sink, G: Gate>(
         words.now shelf.old shelf.new out.old out.new err.old err.new result) }
     ensures unfinished { UnfinishedIsRight (called S.holds S.faults O.written O.faults
         words.now shelf.old shelf.new out.old out.new err.old err.new result) }
+    ensures blocked { BlockedIsRight (called S.holds S.faults O.written O.faults
+        words.now shelf.old shelf.new out.old out.new err.old err.new result) }
     ensures write_fault { WriteFaultIsRight (called S.holds S.faults O.written O.faults
         words.now shelf.old shelf.new out.old out.new err.old err.new result) }
-    ensures given { IsGiven result }
 
     // A shelf that tells the files, files that are accepted and no fault give the command's report whole, or memory ran out.
     ensures complete { IsComplete (called S.holds S.faults O.written O.faults

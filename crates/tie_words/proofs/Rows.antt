@@ -1,7 +1,7 @@
 -- The definitions on worked rows.
 use Rattle.std.proofs.Common.{codes, [], ◌∷◌, refl}
-use Rattle.tie_words.specs.Words.{Check, Asm, Dis, Exec, ExecTie, Accepts, WrongAt}
-use Rattle.tie_words.proofs.WordLemmas.{check_form, asm_form, dis_form, exec_form, names_read, none_wrong, is_check, is_asm, is_dis, is_exec, is_exec_tie}
+use Rattle.tie_words.specs.Words.{Check, Asm, Dis, Exec, ExecTie, Ref, Strict, Accepts, WrongAt}
+use Rattle.tie_words.proofs.WordLemmas.{check_form, asm_form, dis_form, exec_form, ref_form, strict_form, names_read, none_wrong, is_check, is_asm, is_dis, is_exec, is_exec_tie, is_ref, is_strict}
 
 check_text : Accepts (codes "check" ∷ codes "t" ∷ []) (Check (codes "t"))
 check_text = is_check (codes "t" ∷ []) (codes "t") (names_read (codes "check") 1 1 check_form (codes "t" ∷ [])) refl
@@ -32,3 +32,12 @@ listed = is_dis (codes "t" ∷ codes "p" ∷ []) (codes "t") (codes "p") (names_
 
 no_source : WrongAt (codes "asm" ∷ codes "t" ∷ []) 2
 no_source = names_read (codes "asm") 2 2 asm_form (codes "t" ∷ [])
+
+unbounded : Accepts (codes "ref" ∷ codes "n" ∷ []) (Ref (codes "n"))
+unbounded = is_ref (codes "n" ∷ []) (codes "n") (names_read (codes "ref") 1 1 ref_form (codes "n" ∷ [])) refl
+
+bounded : Accepts (codes "strict" ∷ codes "n" ∷ []) (Strict (codes "n"))
+bounded = is_strict (codes "n" ∷ []) (codes "n") (names_read (codes "strict") 1 1 strict_form (codes "n" ∷ [])) refl
+
+no_network : WrongAt (codes "strict" ∷ []) 1
+no_network = names_read (codes "strict") 1 1 strict_form []

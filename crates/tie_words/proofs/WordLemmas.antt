@@ -4,7 +4,7 @@ use Rattle.std.specs.Prelude.{nat_lt, ◌==◌, ◌&&◌}
 use Rattle.std.proofs.lemmas.List.{append_assoc, append-nil}
 use Rattle.std.proofs.lemmas.Grind.{common_steps}
 use Rattle.std.proofs.Math.Seq.{take-add, take-append-add}
-use Rattle.tie_words.specs.Words.{Meant, Check, Asm, Dis, Exec, ExecTie, AreNames, spelled, Accepts, Begins, WrongAt}
+use Rattle.tie_words.specs.Words.{Meant, Check, Asm, Dis, Exec, ExecTie, Ref, Strict, AreNames, spelled, Accepts, Begins, WrongAt}
 use Rattle.tie_words.specs.Reading.{wrong_from}
 
 -- ---- what is one
@@ -34,6 +34,8 @@ same_spelled (Asm a x) (Asm b y) e = let p : a ≡ b = cc in let q : x ≡ y = c
 same_spelled (Dis a x) (Dis b y) e = let p : a ≡ b = cc in let q : x ≡ y = cc in ap (λ z. Dis z x) p ∙ ap (λ z. Dis b z) q
 same_spelled (Exec a) (Exec b) e = let p : a ≡ b = cc in ap Exec p
 same_spelled (ExecTie a x) (ExecTie b y) e = let p : a ≡ b = cc in let q : x ≡ y = cc in ap (λ z. ExecTie z x) p ∙ ap (λ z. ExecTie b z) q
+same_spelled (Ref a) (Ref b) e = let p : a ≡ b = cc in ap Ref p
+same_spelled (Strict a) (Strict b) e = let p : a ≡ b = cc in ap Strict p
 same_spelled (Exec a) (ExecTie b y) e = let p : [] ≡ y ∷ [] = cc in absurd cc
 same_spelled (ExecTie b y) (Exec a) e = let p : [] ≡ y ∷ [] = cc in absurd cc
 same_spelled c d e = absurd (no_bit (same_bytes (first (spelled c)) (first (spelled d)) (ap first e) refl))
@@ -272,6 +274,32 @@ exec_form = record { order = omega arith; makes = makes; only = only }
     only names (ExecTie hex tie) a = let h : codes "exec" ∷ names ≡ codes "exec" ∷ hex ∷ tie ∷ [] = a.spells in let e : names ≡ hex ∷ tie ∷ [] = cc in record { named = a.named.1; enough = rw e (omega arith); few = rw e (omega arith) }
     only names other a = absurd (no_bit (other_word names (codes "exec") other a.spells refl))
 
+one_form : (word : List ℕ) (make : List ℕ → Meant) → ((a : List ℕ) → spelled (make a) ≡ word ∷ a ∷ []) → word ≢ []
+    → ((names : List (List ℕ)) (command : Meant) → word ∷ names ≡ spelled command → length names ≡ 1) → IsForm word 1 1
+one_form word make is_spelled some only_one = record { order = omega arith; makes = makes; only = only }
+  where
+    makes : (names : List (List ℕ)) → AreBehind 1 1 names → (command : Meant) × Accepts (word ∷ names) command
+    makes (a ∷ []) h = (make a, record { spells = sym (is_spelled a); named = (some, h.named) })
+    makes [] h = absurd (grind (arith, h.enough))
+    makes (a ∷ b ∷ rest) h = absurd (grind (arith, h.few))
+
+    only : (names : List (List ℕ)) (command : Meant) → Accepts (word ∷ names) command → AreBehind 1 1 names
+    only names command a = let e = only_one names command a.spells in record { named = a.named.1; enough = omega (arith, e); few = omega (arith, e) }
+
+pub ref_form : IsForm (codes "ref") 1 1
+ref_form = one_form (codes "ref") Ref (λ a. refl) (λ e. absurd cc) one
+  where
+    one : (names : List (List ℕ)) (command : Meant) → codes "ref" ∷ names ≡ spelled command → length names ≡ 1
+    one names (Ref net) h = let e : names ≡ net ∷ [] = cc in rw e refl
+    one names other h = absurd (no_bit (other_word names (codes "ref") other h refl))
+
+pub strict_form : IsForm (codes "strict") 1 1
+strict_form = one_form (codes "strict") Strict (λ a. refl) (λ e. absurd cc) one
+  where
+    one : (names : List (List ℕ)) (command : Meant) → codes "strict" ∷ names ≡ spelled command → length names ≡ 1
+    one names (Strict net) h = let e : names ≡ net ∷ [] = cc in rw e refl
+    one names other h = absurd (no_bit (other_word names (codes "strict") other h refl))
+
 -- ---- no command
 
 pub none_wrong : WrongAt [] 0
@@ -298,8 +326,9 @@ other_wrong word words ne = record {
     no_front : ¬ Begins (word ∷ [])
     no_front (rest, command, a) = ne command (ap first a.spells)
 
-pub no_command : (word : List ℕ) (words : List (List ℕ)) → word ≢ codes "check" → word ≢ codes "asm" → word ≢ codes "dis" → word ≢ codes "exec" → WrongAt (word ∷ words) 0
-no_command word words a b c d = other_wrong word words each
+pub no_command : (word : List ℕ) (words : List (List ℕ)) → word ≢ codes "check" → word ≢ codes "asm" → word ≢ codes "dis" → word ≢ codes "exec"
+    → word ≢ codes "ref" → word ≢ codes "strict" → WrongAt (word ∷ words) 0
+no_command word words a b c d e f = other_wrong word words each
   where
     each : (command : Meant) → word ≢ first (spelled command)
     each (Check tie) = a
@@ -307,6 +336,8 @@ no_command word words a b c d = other_wrong word words each
     each (Dis tie hex) = c
     each (Exec hex) = d
     each (ExecTie hex tie) = d
+    each (Ref net) = e
+    each (Strict net) = f
 
 -- ---- the commands of names
 
@@ -325,10 +356,17 @@ is_exec names hex h e = record { spells = ap (λ z. codes "exec" ∷ z) e; named
 pub is_exec_tie : (names : List (List ℕ)) (hex tie : List ℕ) → AreBehind 1 2 names → names ≡ hex ∷ tie ∷ [] → Accepts (codes "exec" ∷ names) (ExecTie hex tie)
 is_exec_tie names hex tie h e = record { spells = ap (λ z. codes "exec" ∷ z) e; named = ((λ p. absurd cc), h.named) }
 
+pub is_ref : (names : List (List ℕ)) (net : List ℕ) → AreBehind 1 1 names → names ≡ net ∷ [] → Accepts (codes "ref" ∷ names) (Ref net)
+is_ref names net h e = record { spells = ap (λ z. codes "ref" ∷ z) e; named = ((λ p. absurd cc), h.named) }
+
+pub is_strict : (names : List (List ℕ)) (net : List ℕ) → AreBehind 1 1 names → names ≡ net ∷ [] → Accepts (codes "strict" ∷ names) (Strict net)
+is_strict names net h e = record { spells = ap (λ z. codes "strict" ∷ z) e; named = ((λ p. absurd cc), h.named) }
+
 pub no_words : {Y : Type 0} (words : List (String Y)) → length words ≡ 0 → WrongAt (map string_bytes words) 0
 no_words [] e = none_wrong
 no_words (word ∷ words) e = absurd (grind arith)
 
 pub no_command_of : {Y : Type 0} (words names : List (String Y)) (word : String Y) (text : List ℕ) → words ≡ word ∷ names → text ≡ string_bytes word
-    → text ≢ codes "check" → text ≢ codes "asm" → text ≢ codes "dis" → text ≢ codes "exec" → WrongAt (map string_bytes words) 0
-no_command_of words names word text e same a b c d = rw (e, sym same) (no_command text (map string_bytes names) a b c d)
+    → text ≢ codes "check" → text ≢ codes "asm" → text ≢ codes "dis" → text ≢ codes "exec" → text ≢ codes "ref" → text ≢ codes "strict"
+    → WrongAt (map string_bytes words) 0
+no_command_of words names word text e same a b c d f g = rw (e, sym same) (no_command text (map string_bytes names) a b c d f g)

@@ -2,7 +2,7 @@
 use Rattle.std.specs.Prelude.{ℕ, ◌+◌, ◌||◌, ◌==◌, nat_lt, if◌then◌else◌, List, [], ◌∷◌, length, Option, Some, None}
 use Rattle.tie_words.specs.declared.command.Command.{Command}
 use Rattle.tie_words.specs.declared.command.Command.TheVariants as commands
-use Rattle.tie_words.specs.Words.{Meant, Check, Asm, Dis, Exec, ExecTie}
+use Rattle.tie_words.specs.Words.{Meant, Check, Asm, Dis, Exec, ExecTie, Ref, Strict}
 
 -- a command by the words in it
 abbrev pub seen : Command → Meant
@@ -11,6 +11,8 @@ seen (commands.Asm tie source) = Asm tie.now source.now
 seen (commands.Dis tie hex) = Dis tie.now hex.now
 seen (commands.Exec hex) = Exec hex.now
 seen (commands.ExecTie hex tie) = ExecTie hex.now tie.now
+seen (commands.Ref net) = Ref net.now
+seen (commands.Strict net) = Strict net.now
 
 -- of names numbered from here on, the number of the first one that is empty or one too many, or that is missing
 abbrev pub wrong_from : ℕ → ℕ → ℕ → List (List ℕ) → Option ℕ

@@ -8,6 +8,8 @@ pub data Meant : Type 0 where
   Dis : (tie hex : List ℕ) → Meant
   Exec : (hex : List ℕ) → Meant
   ExecTie : (hex tie : List ℕ) → Meant
+  Ref : (net : List ℕ) → Meant
+  Strict : (net : List ℕ) → Meant
 
 -- the words of a command
 abbrev pub spelled : Meant → List (List ℕ)
@@ -16,6 +18,8 @@ spelled (Asm tie source) = codes "asm" ∷ tie ∷ source ∷ []
 spelled (Dis tie hex) = codes "dis" ∷ tie ∷ hex ∷ []
 spelled (Exec hex) = codes "exec" ∷ hex ∷ []
 spelled (ExecTie hex tie) = codes "exec" ∷ hex ∷ tie ∷ []
+spelled (Ref net) = codes "ref" ∷ net ∷ []
+spelled (Strict net) = codes "strict" ∷ net ∷ []
 
 -- each is a word that isn't empty
 abbrev pub AreNames : List (List ℕ) → Type 0

@@ -15,6 +15,10 @@ pub enum Command<'a> {
     Exec { hex: &'a str },
     /// Runs it with the extension of a TIE text.
     ExecTie { hex: &'a str, tie: &'a str },
+    /// Runs a network whose queues have no bound.
+    Ref { net: &'a str },
+    /// Runs a network whose queues have their capacities.
+    Strict { net: &'a str },
 }
 
 /// The command of the words, or the number of the first word that is wrong or missing.
@@ -31,6 +35,8 @@ pub fn command_of(words: &[String]) -> Result<Command<'_>, u32>
         "asm" => asm_of(names),
         "dis" => dis_of(names),
         "exec" => exec_of(names),
+        "ref" => ref_of(names),
+        "strict" => strict_of(names),
         _ => Err(0),
     }
 }
@@ -92,6 +98,32 @@ fn exec_of(names: &[String]) -> Result<Command<'_>, u32>
             hex,
             tie: names[1].as_str(),
         })
+    }
+}
+
+fn ref_of(names: &[String]) -> Result<Command<'_>, u32>
+    ensures { MatchResult result
+        (λ command. Accepts (codes "ref" ∷ map string_bytes names.now) (seen command))
+        (λ place. WrongAt (codes "ref" ∷ map string_bytes names.now) place) }
+{
+    match wrong_name(names, 1, 1) {
+        Some(number) => Err(1 + number),
+        None => Ok(Command::Ref {
+            net: names[0].as_str(),
+        }),
+    }
+}
+
+fn strict_of(names: &[String]) -> Result<Command<'_>, u32>
+    ensures { MatchResult result
+        (λ command. Accepts (codes "strict" ∷ map string_bytes names.now) (seen command))
+        (λ place. WrongAt (codes "strict" ∷ map string_bytes names.now) place) }
+{
+    match wrong_name(names, 1, 1) {
+        Some(number) => Err(1 + number),
+        None => Ok(Command::Strict {
+            net: names[0].as_str(),
+        }),
     }
 }
 

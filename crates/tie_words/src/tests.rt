@@ -9,7 +9,7 @@ struct Row {
     wrong: Option<u32>,
 }
 
-const ROWS: [Row; 14] = [
+const ROWS: [Row; 17] = [
     Row {
         words: &[],
         wrong: Some(0),
@@ -65,6 +65,18 @@ const ROWS: [Row; 14] = [
     Row {
         words: &["dis", "t", "p"],
         wrong: None,
+    },
+    Row {
+        words: &["ref", "n"],
+        wrong: None,
+    },
+    Row {
+        words: &["strict"],
+        wrong: Some(1),
+    },
+    Row {
+        words: &["strict", "n", "q"],
+        wrong: Some(2),
     },
 ];
 
@@ -124,6 +136,21 @@ fn files_of_exec(rt: HostRuntime) -> Result<(), Fail> {
     let words = words_of(rt.alloc(), &row)?;
     let named = match command_of(&words) {
         Ok(Command::ExecTie { hex, tie }) => hex == "p" && tie == "t",
+        _ => false,
+    };
+    assert!(rt; named);
+    Ok(())
+}
+
+#[test]
+fn file_of_strict(rt: HostRuntime) -> Result<(), Fail> {
+    let row = Row {
+        words: &["strict", "n"],
+        wrong: None,
+    };
+    let words = words_of(rt.alloc(), &row)?;
+    let named = match command_of(&words) {
+        Ok(Command::Strict { net }) => net == "n",
         _ => false,
     };
     assert!(rt; named);

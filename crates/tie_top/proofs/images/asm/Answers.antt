@@ -1,6 +1,6 @@
 use Rattle.std.proofs.lemmas.Result.{err_from_is_err_and}
-use Rattle.tie_top.specs.Files.{shelved, Shelved}
-use Rattle.tie_top.proofs.Steps.{whole, early, late, Within}
+use Rattle.tie_files.specs.Files.{shelved, Shelved}
+use Rattle.tie_files.proofs.Steps.{whole, early, late, Within}
 use Rattle.tie_top.proofs.CommandSteps.{asm_first, asm_second, asm_ok}
 use Rattle.tie_top.proofs.images.asm.Goals as goal
 

@@ -1,0 +1,4 @@
+pub mod Digits
+pub mod Core
+pub mod Shape
+pub mod Memory

@@ -1,0 +1,8 @@
+-- Refusals by a fault of reading.
+use Rattle.std.specs.Prelude.{◌≡◌, ℕ, List}
+use Rattle.tie_files.specs.declared.refusal.Refusal.{Refusal}
+use Rattle.tie_files.specs.declared.refusal.Refusal.TheVariants.{ReadFault}
+
+-- some file could not be read
+abbrev pub IsReadFault : Refusal → Type 0
+IsReadFault refusal = (name : List ℕ) × (refusal ≡ ReadFault name)

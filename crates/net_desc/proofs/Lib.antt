@@ -1,0 +1,12 @@
+pub mod Counting
+pub mod Steps
+pub mod Placed
+pub mod Kept
+pub mod Cutting
+pub mod Set
+pub mod Pieces
+pub mod Cores
+pub mod NoPrograms
+pub mod Itemless
+pub mod Numbered
+pub mod OneCore

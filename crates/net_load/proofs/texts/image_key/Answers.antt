@@ -1,0 +1,6 @@
+use Rattle.std.proofs.Common.{◌++◌, append_assoc, ap, sym, ◌∙◌, codes}
+use Rattle.std.specs.Fmt.{decimal}
+use Rattle.net_load.proofs.texts.image_key.Goals as goal
+
+pub returns : goal.returns
+returns c = c.new.ensures ∙ c.in_ok-format.ensures.ok ∙ ap (λ xs. codes "core[" ++ xs) (sym (append_assoc (decimal c.args.index) (codes "]") (codes ".image")))

@@ -1,0 +1,7 @@
+pub mod Broken
+pub mod Values
+pub mod Limits
+pub mod Names
+pub mod Earlier
+pub mod Tables
+pub mod Walk

@@ -1,6 +1,0 @@
-use Rattle.std.proofs.Common.{◌≡◌, ◌++◌, drop, string_bytes}
-use Rattle.tie_report.specs.Report.{state_lines}
-use Rattle.tie_report.proofs.text.push_states.Given as goal
-
-abbrev pub invariant-loop-number : goal.invariant-loop-number
-invariant-loop-number l = string_bytes l.text ++ state_lines (drop l.number l.desc.states) (drop l.number l.arch.states) ≡ string_bytes l.fn.text ++ state_lines l.desc.states l.arch.states

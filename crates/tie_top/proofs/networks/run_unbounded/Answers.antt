@@ -1,0 +1,6 @@
+use Rattle.net_ref.specs.Reference.{IsReference}
+use Rattle.tie_top.proofs.CommandSteps.{at_stop}
+use Rattle.tie_top.proofs.networks.run_unbounded.Goals as goal
+
+pub returns : goal.returns
+returns c = at_stop IsReference c.args.net.now c.in-Ok.end c.report_of.result c.in-Ok.ensures.stop c.report_of.ensures

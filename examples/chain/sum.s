@@ -1,0 +1,5 @@
+MOVI a2, 4
+loop: ADDUP
+ADDI a2, a2, -1
+BNEZ a2, loop
+SIMCALL

@@ -1,0 +1,4 @@
+POPB a3
+POPA a2
+POPA a2
+SIMCALL

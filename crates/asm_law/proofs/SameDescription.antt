@@ -5,7 +5,7 @@ use Rattle.std.specs.Prelude.{nat_lt, slice_get}
 use Rattle.std.specs.List.{position, position_or_len, prefix_len, flat_map}
 use Rattle.std.specs.Str.{bytes_eq}
 use Rattle.tie_expr.specs.declared.node.Node.{Node}
-use Rattle.tie_rules.specs.Schedules.{opcodes}
+use Rattle.tie_front.specs.tie_rules.Schedules.{opcodes}
 use Rattle.tie_desc.specs.Invariant.{formats_of_width}
 use Rattle.tie_lexer.proofs.Law.{one_list}
 use Rattle.tie_grammar.specs.declared.symbol.Leaf.{Leaf}
@@ -20,11 +20,11 @@ use Rattle.tie_desc.specs.declared.declarations.OpDecl.{OpDecl}
 use Rattle.tie_desc.specs.declared.formats.Code.{Code}
 use Rattle.tie_desc.specs.declared.formats.SlotDecl.{SlotDecl}
 use Rattle.tie_desc.specs.declared.formats.FormatDecl.{FormatDecl}
-use Rattle.tie_describe.specs.Declarations.{byte, byte_of}
-use Rattle.tie_describe.specs.Operations.{operations, operation, with_results}
-use Rattle.tie_describe.specs.Formats.{op_or_core, code_of, slot, format, formats_behind, format_of, formats}
-use Rattle.tie_describe.specs.Described.{ops, described}
-use Rattle.tie_check.specs.Checked.{Accepted}
+use Rattle.tie_front.specs.tie_describe.Declarations.{byte, byte_of}
+use Rattle.tie_front.specs.tie_describe.Operations.{operations, operation, with_results}
+use Rattle.tie_front.specs.tie_describe.Formats.{op_or_core, code_of, slot, format, formats_behind, format_of, formats}
+use Rattle.tie_front.specs.tie_describe.Described.{ops, described}
+use Rattle.tie_front.specs.tie_check.Checked.{Accepted}
 use Rattle.tie_front.specs.Front.{IsDescriptionOf}
 use Rattle.xt_asm.specs.Assembly.{assembly}
 use Rattle.asm_law.proofs.SameImage.{AreAlike, swap, assembly_same}

@@ -35,13 +35,13 @@ use Rattle.asm_lines.specs.declared.line.Operation.{Operation}
 use Rattle.asm_lines.specs.declared.line.Statement.{Statement}
 use Rattle.asm_lines.specs.declared.line.Statement.TheVariants as stated
 use Rattle.asm_lines.specs.declared.line.Line.{Line}
-use Rattle.asm_rules.specs.declared.expected.Expected.{Expected}
-use Rattle.asm_rules.specs.declared.written.Written.{Written}
-use Rattle.asm_rules.specs.Expected.{of_access, expected}
-use Rattle.asm_rules.specs.Operands.{Find, Judge, meant, is_kind, in_range, is_known, reaches}
-use Rattle.asm_rules.specs.Labels.{format_at, addresses, labels_of, find_of}
-use Rattle.asm_rules.specs.Slots.{code_in, field_at, fields, written_in, written_of, written, repeated}
-use Rattle.asm_rules.specs.Rules.{or_else, unless, first_in, judged, judged_by, judged_operation, judged_in, counts, miscounted_operation, miscounted, rewritten, breach, fault_at, breach_from, breach_by, line_rules, long_from, unreached_in, fault_in}
+use Rattle.xt_asm.specs.asm_rules.declared.expected.Expected.{Expected}
+use Rattle.xt_asm.specs.asm_rules.declared.written.Written.{Written}
+use Rattle.xt_asm.specs.asm_rules.Expected.{of_access, expected}
+use Rattle.xt_asm.specs.asm_rules.Operands.{Find, Judge, meant, is_kind, in_range, is_known, reaches}
+use Rattle.xt_asm.specs.asm_rules.Labels.{format_at, addresses, labels_of, find_of}
+use Rattle.xt_asm.specs.asm_rules.Slots.{code_in, field_at, fields, written_in, written_of, written, repeated}
+use Rattle.xt_asm.specs.asm_rules.Rules.{or_else, unless, first_in, judged, judged_by, judged_operation, judged_in, counts, miscounted_operation, miscounted, rewritten, breach, fault_at, breach_from, breach_by, line_rules, long_from, unreached_in, fault_in}
 use Rattle.xt_asm.specs.Bytes.{values, code_or_nop, part_of, alone_bytes, bytes, image_in}
 use Rattle.xt_asm.specs.Assembly.{image, assembled, of_lines, of_tokens, assembly}
 

@@ -14,8 +14,6 @@ mod piece;
 mod read;
 mod refusal;
 mod scan;
-#[cfg(test)]
-mod tests;
 mod token;
 mod word;
 

@@ -12,8 +12,6 @@ mod meaning;
 mod parts;
 mod rules;
 mod sizes;
-#[cfg(test)]
-mod tests;
 mod written;
 
 pub use expected::{Expected, expected_at, expected_count};

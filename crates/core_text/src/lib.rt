@@ -5,8 +5,6 @@
 
 mod digits;
 mod memory;
-#[cfg(test)]
-mod tests;
 mod text;
 
 pub use digits::{digit_count, push_hex};

@@ -4,7 +4,5 @@
 #![tactic(auto)]
 
 mod hexadecimal;
-#[cfg(test)]
-mod tests;
 
 pub use hexadecimal::{HexRefusal, HexRule, read_hex};

@@ -405,6 +405,3 @@ pub fn run_strict(alloc: Global, net: &Machines, rounds: u64) -> Result<Vec<Plac
 {
     run(alloc, net, rounds, true)
 }
-
-#[cfg(test)]
-mod tests;

@@ -1,13 +1,13 @@
 -- Of which kinds the refusals of a network are.
 use Rattle.std.proofs.Common.{◌≡◌, ℕ, List, [], ◌∷◌, Result, sym, subst, ◌∙◌, inl, inr}
 use Rattle.tie_io.specs.Counts.{Rose}
-use Rattle.net_toml.specs.declared.plan.NetPlan.{NetPlan}
-use Rattle.net_toml.specs.Broken.{Broken}
-use Rattle.net_desc.specs.Workers.{cores_with}
-use Rattle.net_desc.specs.Wiring.{wiring}
-use Rattle.tie_files.specs.declared.refusal.Refusal.{Refusal}
-use Rattle.tie_files.specs.declared.refusal.Refusal.TheVariants.{Usage, ReadFault, TooLong, TieRefused, AsmRefused, HexRefused, NetRefused, NoMemory}
-use Rattle.tie_files.specs.Files.{Shelved, RefusesTie, IsWrong, ReadFails, IsTooLong, TextIsWrong}
+use Rattle.net_load.specs.net_toml.declared.plan.NetPlan.{NetPlan}
+use Rattle.net_load.specs.net_toml.Broken.{Broken}
+use Rattle.net_load.specs.net_desc.Workers.{cores_with}
+use Rattle.net_load.specs.net_desc.Wiring.{wiring}
+use Rattle.net_load.specs.tie_files.declared.refusal.Refusal.{Refusal}
+use Rattle.net_load.specs.tie_files.declared.refusal.Refusal.TheVariants.{Usage, ReadFault, TooLong, TieRefused, AsmRefused, HexRefused, NetRefused, NoMemory}
+use Rattle.net_load.specs.tie_files.Files.{Shelved, RefusesTie, IsWrong, ReadFails, IsTooLong, TextIsWrong}
 use Rattle.net_load.specs.Texts.{image_in, items_in, Breaks}
 use Rattle.net_load.specs.Steps.{Step, Tie, Image, Wires, Items, IsStuck, FirstStuck}
 use Rattle.net_load.specs.Told.{OfFile, OfFiles}

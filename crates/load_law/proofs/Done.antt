@@ -2,13 +2,13 @@
 use Rattle.std.proofs.Common.{◌≡◌, ℕ, ◌+◌, List, [], ◌∷◌, ◌++◌, map, Option, Some, None, Global, refl, ap, ◌∙◌}
 use Rattle.std.specs.Vec.{vec_allocator}
 use Rattle.std.specs.formers.vec.Vec.{mapped, the_empty}
-use Rattle.net_parts.specs.declared.parts.Net.{Net}
-use Rattle.net_parts.specs.declared.parts.NetSource.{NetSource}
-use Rattle.net_toml.specs.declared.plan.NetPlan.{NetPlan}
-use Rattle.net_toml.specs.declared.plan.PlanCore.{PlanCore}
-use Rattle.net_toml.specs.declared.plan.PlanSource.{PlanSource}
-use Rattle.net_desc.specs.Workers.{Loaded, source_parts, itemless}
-use Rattle.tie_files.specs.Files.{Shelved}
+use Rattle.net_load.specs.net_parts.declared.parts.Net.{Net}
+use Rattle.net_load.specs.net_parts.declared.parts.NetSource.{NetSource}
+use Rattle.net_load.specs.net_toml.declared.plan.NetPlan.{NetPlan}
+use Rattle.net_load.specs.net_toml.declared.plan.PlanCore.{PlanCore}
+use Rattle.net_load.specs.net_toml.declared.plan.PlanSource.{PlanSource}
+use Rattle.net_load.specs.net_desc.Workers.{Loaded, source_parts, itemless}
+use Rattle.net_load.specs.tie_files.Files.{Shelved}
 use Rattle.net_load.specs.Texts.{items_in}
 use Rattle.net_load.specs.Loaded.{IsDescOf, AreCoresOf, AreSourcesOf, IsWiredOf, IsNetOf}
 use Rattle.net_load.specs.Steps.{Step, Image, Wires, tie_steps, cores_steps, sources_steps, steps}

@@ -1,13 +1,13 @@
 -- The processors of a plan whose files a shelf tells have one wiring.
 use Rattle.std.proofs.Common.{◌≡◌, ℕ, ◌+◌, List, [], ◌∷◌, ◌++◌, Option, Some, None, refl, sym, ap, subst, ◌∙◌}
 use Rattle.tie_desc.specs.Description.{Description}
-use Rattle.tie_front.specs.Front.{IsDescriptionOf}
-use Rattle.net_parts.specs.declared.parts.Net.{Net}
-use Rattle.net_toml.specs.declared.plan.NetPlan.{NetPlan}
-use Rattle.net_toml.specs.declared.plan.PlanCore.{PlanCore}
-use Rattle.net_desc.specs.Workers.{Loaded, cores_with}
-use Rattle.net_desc.specs.Wiring.{wiring}
-use Rattle.tie_files.specs.Files.{Shelved}
+use Rattle.net_load.specs.tie_front.Front.{IsDescriptionOf}
+use Rattle.net_load.specs.net_parts.declared.parts.Net.{Net}
+use Rattle.net_load.specs.net_toml.declared.plan.NetPlan.{NetPlan}
+use Rattle.net_load.specs.net_toml.declared.plan.PlanCore.{PlanCore}
+use Rattle.net_load.specs.net_desc.Workers.{Loaded, cores_with}
+use Rattle.net_load.specs.net_desc.Wiring.{wiring}
+use Rattle.net_load.specs.tie_files.Files.{Shelved}
 use Rattle.net_load.specs.Texts.{items_in}
 use Rattle.net_load.specs.Loaded.{IsDescOf, AreCoresOf, IsWiredOf}
 use Rattle.net_load.specs.Steps.{Step, Image, tie_steps, cores_steps, steps}

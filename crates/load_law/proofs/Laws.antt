@@ -1,12 +1,12 @@
 -- What the files of a shelf say of a network is one, but for faults of reading.
 use Rattle.std.proofs.Common.{◌≡◌, ◌⊎◌, ℕ, List, [], Ok, refl, sym, ap, subst, ◌∙◌, inl, inr}
 use Rattle.tie_io.specs.Counts.{Rose}
-use Rattle.net_parts.specs.declared.parts.Net.{Net}
-use Rattle.net_toml.specs.declared.plan.NetPlan.{NetPlan}
-use Rattle.net_toml.specs.Walk.{plan_in}
-use Rattle.tie_files.specs.declared.refusal.Refusal.{Refusal}
-use Rattle.tie_files.specs.declared.refusal.Refusal.TheVariants.{ReadFault}
-use Rattle.tie_files.specs.Files.{Shelved, IsWrong}
+use Rattle.net_load.specs.net_parts.declared.parts.Net.{Net}
+use Rattle.net_load.specs.net_toml.declared.plan.NetPlan.{NetPlan}
+use Rattle.net_load.specs.net_toml.Walk.{plan_in}
+use Rattle.net_load.specs.tie_files.declared.refusal.Refusal.{Refusal}
+use Rattle.net_load.specs.tie_files.declared.refusal.Refusal.TheVariants.{ReadFault}
+use Rattle.net_load.specs.tie_files.Files.{Shelved, IsWrong}
 use Rattle.net_load.specs.Texts.{Breaks}
 use Rattle.net_load.specs.Loaded.{IsPlanOf, IsNetOf}
 use Rattle.net_load.specs.Steps.{steps, FirstStuck, IsRefusedNet}

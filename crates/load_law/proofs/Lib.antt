@@ -7,3 +7,4 @@ mod Steps
 mod Done
 mod ByKind
 pub mod Laws
+pub use Rattle.net_load.proofs.tie_files_proofs as tie_files_proofs

@@ -1,8 +1,8 @@
 -- Results are `Ok` or `Err`, and what they hold is one.
 use Rattle.std.proofs.Common.{◌≡◌, ℕ, List, Result, Ok, Err, sym, ap, subst, ◌∙◌}
-use Rattle.net_toml.specs.Broken.{Broken}
-use Rattle.tie_files.specs.declared.refusal.Refusal.{Refusal}
-use Rattle.tie_files.specs.declared.refusal.Refusal.TheVariants.{NetRefused}
+use Rattle.net_load.specs.net_toml.Broken.{Broken}
+use Rattle.net_load.specs.tie_files.declared.refusal.Refusal.{Refusal}
+use Rattle.net_load.specs.tie_files.declared.refusal.Refusal.TheVariants.{NetRefused}
 use Rattle.net_load.specs.Texts.{Breaks}
 
 IsGood : {A E : Type 0} → Result A E → Type 0

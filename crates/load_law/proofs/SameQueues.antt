@@ -4,8 +4,8 @@ use Rattle.tie_lexer.proofs.Law.{one_list}
 use Rattle.tie_ast.specs.Parsing.{IsTreeOf}
 use Rattle.tie_ast.proofs.ParseLaw.{one_tree}
 use Rattle.tie_desc.specs.Description.{Description}
-use Rattle.tie_check.specs.Checked.{Accepted}
-use Rattle.tie_front.specs.Front.{IsDescriptionOf}
+use Rattle.net_load.specs.tie_check.Checked.{Accepted}
+use Rattle.net_load.specs.tie_front.Front.{IsDescriptionOf}
 
 trees : (text : List ℕ) (d e : Description) (p : IsDescriptionOf text d) (q : IsDescriptionOf text e) → p.tree ≡ q.tree
 trees text d e p q = one_tree text q.tokens p.tree q.tree (subst (λ z. IsTreeOf text z p.tree) (one_list text p.tokens q.tokens p.lexed q.lexed) p.parsed) q.parsed

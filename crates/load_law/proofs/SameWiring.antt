@@ -7,23 +7,23 @@ use Rattle.std.specs.Option.{option_map, option_and_then, ok_or}
 use Rattle.std.specs.Str.{bytes_eq}
 use Rattle.tie_desc.specs.Operands.{queue_width}
 use Rattle.tie_desc.specs.declared.declarations.QueueDecl.{QueueDecl}
-use Rattle.net_parts.specs.declared.parts.Net.{Net}
-use Rattle.net_parts.specs.declared.parts.NetCore.{NetCore}
-use Rattle.net_parts.specs.declared.parts.NetQueue.{NetQueue}
-use Rattle.net_parts.specs.declared.parts.FromEnd.{FromEnd}
-use Rattle.net_parts.specs.declared.parts.FromEnd.TheVariants as from
-use Rattle.net_parts.specs.declared.parts.ToEnd.{ToEnd}
-use Rattle.net_parts.specs.declared.parts.ToEnd.TheVariants as to
-use Rattle.net_parts.specs.Ends.{is_source, input_bits, output_bits}
-use Rattle.net_toml.specs.declared.refusal.NetRule.TheVariants.{End, Twice, Width, Item}
-use Rattle.net_toml.specs.declared.plan.NetPlan.{NetPlan}
-use Rattle.net_toml.specs.declared.plan.PlanQueue.{PlanQueue}
-use Rattle.net_toml.specs.Broken.{Broken, ◌>>=◌, check}
-use Rattle.net_toml.specs.Names.{place_of}
-use Rattle.net_toml.specs.Walk.{each}
-use Rattle.net_desc.specs.Ends.{core_number, output_number, input_number, core_output, core_input, from_parts, to_parts, from_end, to_end, cut, same_from, same_to, joins, same_width}
-use Rattle.net_desc.specs.Items as item
-use Rattle.net_desc.specs.Wiring.{queue_of, each_number, input_wired, output_wired, core_wired, source_wired, collector_wired, all_wired, wiring}
+use Rattle.net_load.specs.net_parts.declared.parts.Net.{Net}
+use Rattle.net_load.specs.net_parts.declared.parts.NetCore.{NetCore}
+use Rattle.net_load.specs.net_parts.declared.parts.NetQueue.{NetQueue}
+use Rattle.net_load.specs.net_parts.declared.parts.FromEnd.{FromEnd}
+use Rattle.net_load.specs.net_parts.declared.parts.FromEnd.TheVariants as from
+use Rattle.net_load.specs.net_parts.declared.parts.ToEnd.{ToEnd}
+use Rattle.net_load.specs.net_parts.declared.parts.ToEnd.TheVariants as to
+use Rattle.net_load.specs.net_parts.Ends.{is_source, input_bits, output_bits}
+use Rattle.net_load.specs.net_toml.declared.refusal.NetRule.TheVariants.{End, Twice, Width, Item}
+use Rattle.net_load.specs.net_toml.declared.plan.NetPlan.{NetPlan}
+use Rattle.net_load.specs.net_toml.declared.plan.PlanQueue.{PlanQueue}
+use Rattle.net_load.specs.net_toml.Broken.{Broken, ◌>>=◌, check}
+use Rattle.net_load.specs.net_toml.Names.{place_of}
+use Rattle.net_load.specs.net_toml.Walk.{each}
+use Rattle.net_load.specs.net_desc.Ends.{core_number, output_number, input_number, core_output, core_input, from_parts, to_parts, from_end, to_end, cut, same_from, same_to, joins, same_width}
+use Rattle.net_load.specs.net_desc.Items as item
+use Rattle.net_load.specs.net_desc.Wiring.{queue_of, each_number, input_wired, output_wired, core_wired, source_wired, collector_wired, all_wired, wiring}
 use Rattle.net_load.specs.Texts.{hex_in, items_key, items_in}
 
 -- two processors of one name that declare the same queues

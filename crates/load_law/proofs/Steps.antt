@@ -1,13 +1,13 @@
 -- A step of a told network is done or stuck, and stuck in one way, but for faults of reading.
 use Rattle.std.proofs.Common.{◌≡◌, ℕ, List, [], ◌∷◌, sym, ap, subst, ◌∙◌, inl, inr}
-use Rattle.tie_front.specs.declared.refusal.TieRule.{TieRule}
-use Rattle.tie_front.proofs.Laws.{one_refusal, not_refused}
-use Rattle.net_toml.specs.declared.plan.NetPlan.{NetPlan}
-use Rattle.net_desc.specs.Workers.{cores_with}
-use Rattle.net_desc.specs.Wiring.{wiring}
-use Rattle.tie_files.specs.declared.refusal.Refusal.{Refusal}
-use Rattle.tie_files.specs.declared.refusal.Refusal.TheVariants.{TieRefused}
-use Rattle.tie_files.specs.Files.{Shelved, RefusesTie}
+use Rattle.net_load.specs.tie_front.declared.refusal.TieRule.{TieRule}
+use Rattle.net_load.proofs.tie_front_proofs.Laws.{one_refusal, not_refused}
+use Rattle.net_load.specs.net_toml.declared.plan.NetPlan.{NetPlan}
+use Rattle.net_load.specs.net_desc.Workers.{cores_with}
+use Rattle.net_load.specs.net_desc.Wiring.{wiring}
+use Rattle.net_load.specs.tie_files.declared.refusal.Refusal.{Refusal}
+use Rattle.net_load.specs.tie_files.declared.refusal.Refusal.TheVariants.{TieRefused}
+use Rattle.net_load.specs.tie_files.Files.{Shelved, RefusesTie}
 use Rattle.net_load.specs.Texts.{image_in, items_in, Breaks}
 use Rattle.net_load.specs.Steps.{Step, Tie, Image, Wires, Items, steps, IsDone, IsStuck, FirstStuck}
 use Rattle.net_load.specs.Told.{IsTold, OfFile, OfFiles}

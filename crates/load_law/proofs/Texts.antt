@@ -1,8 +1,8 @@
 -- A file that a shelf tells has one text, and is wrong in one way but for faults of reading.
 use Rattle.std.proofs.Common.{◌≡◌, ◌⊎◌, ℕ, ◌≤◌, ◌<◌, List, length, Some, sym, subst, ◌∙◌, inl, inr, arith}
 use Rattle.tie_io.specs.Reading.{IsFile, IsLonger}
-use Rattle.tie_files.specs.declared.refusal.Refusal.{Refusal}
-use Rattle.tie_files.specs.Files.{Shelved, IsTextOf, IsWrong, ReadFails, IsTooLong, TextIsWrong}
+use Rattle.net_load.specs.tie_files.declared.refusal.Refusal.{Refusal}
+use Rattle.net_load.specs.tie_files.Files.{Shelved, IsTextOf, IsWrong, ReadFails, IsTooLong, TextIsWrong}
 use Rattle.net_load.specs.Told.{IsTold}
 use Rattle.load_law.specs.Faults.{IsReadFault}
 

@@ -1,6 +1,6 @@
 -- The kinds of refusals that networks have.
-use Rattle.tie_files.specs.declared.refusal.Refusal.{Refusal}
-use Rattle.tie_files.specs.declared.refusal.Refusal.TheVariants.{Usage, ReadFault, TooLong, TieRefused, AsmRefused, HexRefused, NetRefused, NoMemory}
+use Rattle.net_load.specs.tie_files.declared.refusal.Refusal.{Refusal}
+use Rattle.net_load.specs.tie_files.declared.refusal.Refusal.TheVariants.{Usage, ReadFault, TooLong, TieRefused, AsmRefused, HexRefused, NetRefused, NoMemory}
 
 -- a file can't be read or is too long, a TIE text is refused, or a rule of networks is broken
 abbrev pub IsNetKind : Refusal → Type 0

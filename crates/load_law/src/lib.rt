@@ -9,11 +9,14 @@ ghost use Rattle.std.specs.Prelude.{◌≡◌, ◌⊎◌, ℕ, List};
 ghost use Rattle.net_load.specs.Loaded.{IsNetOf};
 ghost use Rattle.net_load.specs.Steps.{IsRefusedNet};
 ghost use Rattle.net_load.specs.Told.{IsToldNet, IsSteadyNet};
-ghost use Rattle.net_parts.specs.declared.parts.Net.{Net};
-ghost use Rattle.tie_files.specs.declared.refusal.Refusal.{Refusal};
-ghost use Rattle.tie_files.specs.declared.refusal.Refusal.TheVariants.{ReadFault};
-ghost use Rattle.tie_files.specs.Files.{Shelved};
+ghost use Rattle.net_load.specs.net_parts.declared.parts.Net.{Net};
+ghost use Rattle.net_load.specs.tie_files.declared.refusal.Refusal.{Refusal};
+ghost use Rattle.net_load.specs.tie_files.declared.refusal.Refusal.TheVariants.{ReadFault};
+ghost use Rattle.net_load.specs.tie_files.Files.{Shelved};
 ghost use Rattle.load_law.specs.Faults.{IsReadFault};
+
+pub use net_load;
+pub use net_load::{net_desc, net_toml, tie_files};
 
 /// A network that the files of a shelf describe isn't refused, where the shelf tells them, but for a fault of reading.
 pub fn loaded_refused()

@@ -1,14 +1,14 @@
 -- Sources without items.
 use Rattle.std.proofs.Common.{◌≡◌, ℕ, zero, suc, ◌<◌, ◌≤◌, ◌^◌, List, [], ◌∷◌, length, map, All, slice_get, slice_index_or, refl, ap, arith}
 use Rattle.std.proofs.lemmas.List.Elements.{All-nil, All-cons, All-head, All-tail, All-same}
-use Rattle.net_parts.specs.declared.parts.Net.{Net}
-use Rattle.net_parts.specs.declared.parts.NetSource.{NetSource}
-use Rattle.net_parts.specs.declared.parts.FromEnd.{FromEnd}
-use Rattle.net_parts.specs.declared.parts.FromEnd.TheVariants as from
-use Rattle.net_parts.specs.declared.parts.ToEnd.{ToEnd}
-use Rattle.net_parts.specs.declared.parts.ToEnd.TheVariants as to
-use Rattle.net_parts.specs.Ends.{input_bits}
-use Rattle.net_parts.specs.Network.{ItemsFit, items_of}
+use Rattle.net_toml.specs.net_parts.declared.parts.Net.{Net}
+use Rattle.net_toml.specs.net_parts.declared.parts.NetSource.{NetSource}
+use Rattle.net_toml.specs.net_parts.declared.parts.FromEnd.{FromEnd}
+use Rattle.net_toml.specs.net_parts.declared.parts.FromEnd.TheVariants as from
+use Rattle.net_toml.specs.net_parts.declared.parts.ToEnd.{ToEnd}
+use Rattle.net_toml.specs.net_parts.declared.parts.ToEnd.TheVariants as to
+use Rattle.net_toml.specs.net_parts.Ends.{input_bits}
+use Rattle.net_toml.specs.net_parts.Network.{ItemsFit, items_of}
 use Rattle.net_desc.specs.Workers.{source_parts}
 
 abbrev pub HasNone : NetSource → Type 0

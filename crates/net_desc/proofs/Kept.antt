@@ -3,12 +3,12 @@ use Rattle.std.proofs.Common.{◌≡◌, ℕ, ◌<◌, ◌≤◌, true, List, []
 use Rattle.std.specs.List.{zip, list_any}
 use Rattle.std.proofs.lemmas.List.Elements.{All-nil, All-cons, All-head, All-tail, All-same}
 use Rattle.tie_desc.specs.declared.declarations.QueueDecl.{QueueDecl}
-use Rattle.net_parts.specs.declared.parts.Net.{Net}
-use Rattle.net_parts.specs.declared.parts.NetCore.{NetCore}
-use Rattle.net_parts.specs.declared.parts.NetQueue.{NetQueue}
-use Rattle.net_parts.specs.declared.parts.NetCollector.{NetCollector}
-use Rattle.net_parts.specs.Ends.{is_input, is_output, is_source, is_collector, ins_of, outs_of}
-use Rattle.net_parts.specs.Network.{IsCore, IsCollector, IsWiredOnce, IsNet}
+use Rattle.net_toml.specs.net_parts.declared.parts.Net.{Net}
+use Rattle.net_toml.specs.net_parts.declared.parts.NetCore.{NetCore}
+use Rattle.net_toml.specs.net_parts.declared.parts.NetQueue.{NetQueue}
+use Rattle.net_toml.specs.net_parts.declared.parts.NetCollector.{NetCollector}
+use Rattle.net_toml.specs.net_parts.Ends.{is_input, is_output, is_source, is_collector, ins_of, outs_of}
+use Rattle.net_toml.specs.net_parts.Network.{IsCore, IsCollector, IsWiredOnce, IsNet}
 use Rattle.net_toml.specs.declared.plan.NetPlan.{NetPlan}
 use Rattle.net_toml.specs.declared.plan.PlanCore.{PlanCore}
 use Rattle.net_toml.specs.declared.plan.PlanSource.{PlanSource}

@@ -6,7 +6,6 @@ pub mod Cutting
 pub mod Set
 pub mod Pieces
 pub mod Cores
-pub mod NoPrograms
 pub mod Itemless
 pub mod Numbered
 pub mod OneCore

@@ -3,7 +3,7 @@ use Rattle.std.proofs.Common.{◌≡◌, ℕ, ◌+◌, ◌<◌, ◌≤◌, Bool,
 use Rattle.std.proofs.lemmas.Bool.Decides.{nat_tests}
 use Rattle.std.proofs.lemmas.List.Elements.{All-nil, All-cons}
 use Rattle.tie_desc.specs.declared.declarations.QueueDecl.{QueueDecl}
-use Rattle.net_parts.specs.declared.parts.NetQueue.{NetQueue}
+use Rattle.net_toml.specs.net_parts.declared.parts.NetQueue.{NetQueue}
 use Rattle.net_desc.proofs.Counting.{count_by-cons}
 
 -- one queue of each port

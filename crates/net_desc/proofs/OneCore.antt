@@ -6,13 +6,13 @@ use Rattle.std.proofs.lemmas.List.Elements.{All-nil, All-cons, All-same, All-app
 use Rattle.tie_desc.specs.Fetching.{IsImage}
 use Rattle.tie_desc.specs.Invariant.{IsDescription}
 use Rattle.tie_desc.specs.declared.declarations.QueueDecl.{QueueDecl}
-use Rattle.net_parts.specs.declared.parts.Net.{Net}
-use Rattle.net_parts.specs.declared.parts.NetCore.{NetCore}
-use Rattle.net_parts.specs.declared.parts.NetQueue.{NetQueue}
-use Rattle.net_parts.specs.declared.parts.FromEnd.TheVariants as from
-use Rattle.net_parts.specs.declared.parts.ToEnd.TheVariants as to
-use Rattle.net_parts.specs.Ends.{is_input, is_output, is_source, is_collector, ins_of, outs_of, input_count, output_count, HasFrom, HasTo}
-use Rattle.net_parts.specs.Network.{IsCore, IsCollector, IsQueue, IsWiredOnce, IsBetween, IsNet}
+use Rattle.net_toml.specs.net_parts.declared.parts.Net.{Net}
+use Rattle.net_toml.specs.net_parts.declared.parts.NetCore.{NetCore}
+use Rattle.net_toml.specs.net_parts.declared.parts.NetQueue.{NetQueue}
+use Rattle.net_toml.specs.net_parts.declared.parts.FromEnd.TheVariants as from
+use Rattle.net_toml.specs.net_parts.declared.parts.ToEnd.TheVariants as to
+use Rattle.net_toml.specs.net_parts.Ends.{is_input, is_output, is_source, is_collector, ins_of, outs_of, input_count, output_count, HasFrom, HasTo}
+use Rattle.net_toml.specs.net_parts.Network.{IsCore, IsCollector, IsQueue, IsWiredOnce, IsBetween, IsNet}
 use Rattle.net_desc.specs.Workers.{Loaded}
 use Rattle.net_desc.specs.Alone.{alone_core, alone_collector, alone_inputs, alone_outputs, IsAlone}
 use Rattle.net_desc.proofs.Itemless.{HasNone, sources_count, no_items, fits_none, few_none}

@@ -7,16 +7,16 @@ use Rattle.std.specs.Str.{bytes_eq}
 use Rattle.std.proofs.lemmas.Bool.Decides.{nat_tests}
 use Rattle.std.proofs.lemmas.List.Elements.{All-nil, All-push}
 use Rattle.tie_desc.specs.declared.declarations.QueueDecl.{QueueDecl}
-use Rattle.net_parts.specs.declared.parts.Net.{Net}
-use Rattle.net_parts.specs.declared.parts.NetCore.{NetCore}
-use Rattle.net_parts.specs.declared.parts.NetQueue.{NetQueue}
-use Rattle.net_parts.specs.declared.parts.NetCollector.{NetCollector}
-use Rattle.net_parts.specs.declared.parts.FromEnd.{FromEnd}
-use Rattle.net_parts.specs.declared.parts.FromEnd.TheVariants as from
-use Rattle.net_parts.specs.declared.parts.ToEnd.{ToEnd}
-use Rattle.net_parts.specs.declared.parts.ToEnd.TheVariants as to
-use Rattle.net_parts.specs.Ends.{is_input, is_output, is_source, is_collector, ins_of, outs_of, HasFrom, HasTo}
-use Rattle.net_parts.specs.Network.{IsQueue, IsBetween}
+use Rattle.net_toml.specs.net_parts.declared.parts.Net.{Net}
+use Rattle.net_toml.specs.net_parts.declared.parts.NetCore.{NetCore}
+use Rattle.net_toml.specs.net_parts.declared.parts.NetQueue.{NetQueue}
+use Rattle.net_toml.specs.net_parts.declared.parts.NetCollector.{NetCollector}
+use Rattle.net_toml.specs.net_parts.declared.parts.FromEnd.{FromEnd}
+use Rattle.net_toml.specs.net_parts.declared.parts.FromEnd.TheVariants as from
+use Rattle.net_toml.specs.net_parts.declared.parts.ToEnd.{ToEnd}
+use Rattle.net_toml.specs.net_parts.declared.parts.ToEnd.TheVariants as to
+use Rattle.net_toml.specs.net_parts.Ends.{is_input, is_output, is_source, is_collector, ins_of, outs_of, HasFrom, HasTo}
+use Rattle.net_toml.specs.net_parts.Network.{IsQueue, IsBetween}
 use Rattle.net_toml.specs.declared.plan.NetPlan.{NetPlan}
 use Rattle.net_toml.specs.declared.plan.PlanSource.{PlanSource}
 use Rattle.net_toml.specs.declared.plan.PlanQueue.{PlanQueue}

@@ -4,15 +4,15 @@ use Rattle.std.specs.List.{list_all}
 use Rattle.std.proofs.lemmas.Bool.{and_parts}
 use Rattle.std.proofs.lemmas.Bool.Decides.{nat_tests}
 use Rattle.std.proofs.lemmas.List.Elements.{All-nil, All-cons, All-same, All-set}
-use Rattle.net_parts.specs.declared.parts.Net.{Net}
-use Rattle.net_parts.specs.declared.parts.NetSource.{NetSource}
-use Rattle.net_parts.specs.declared.parts.NetQueue.{NetQueue}
-use Rattle.net_parts.specs.declared.parts.FromEnd.{FromEnd}
-use Rattle.net_parts.specs.declared.parts.FromEnd.TheVariants as from
-use Rattle.net_parts.specs.declared.parts.ToEnd.{ToEnd}
-use Rattle.net_parts.specs.declared.parts.ToEnd.TheVariants as to
-use Rattle.net_parts.specs.Ends.{is_source, input_bits, HasFrom}
-use Rattle.net_parts.specs.Network.{IsNet, ItemsFit, items_of}
+use Rattle.net_toml.specs.net_parts.declared.parts.Net.{Net}
+use Rattle.net_toml.specs.net_parts.declared.parts.NetSource.{NetSource}
+use Rattle.net_toml.specs.net_parts.declared.parts.NetQueue.{NetQueue}
+use Rattle.net_toml.specs.net_parts.declared.parts.FromEnd.{FromEnd}
+use Rattle.net_toml.specs.net_parts.declared.parts.FromEnd.TheVariants as from
+use Rattle.net_toml.specs.net_parts.declared.parts.ToEnd.{ToEnd}
+use Rattle.net_toml.specs.net_parts.declared.parts.ToEnd.TheVariants as to
+use Rattle.net_toml.specs.net_parts.Ends.{is_source, input_bits, HasFrom}
+use Rattle.net_toml.specs.net_parts.Network.{IsNet, ItemsFit, items_of}
 use Rattle.net_desc.specs.Items.{source_queue, to_bits, queue_bits, item_bits, items_in, SameBut, bytes_of_width, numbers_in, fits_bits, is_width}
 use Rattle.net_desc.proofs.Counting.{find-only, count_by-not_found}
 

@@ -3,13 +3,13 @@ use Rattle.std.specs.Prelude.{ℕ, ◌==◌, nat_lt, not, ◌&&◌, Bool, true, 
 use Rattle.std.specs.Option.{option_map, option_and_then}
 use Rattle.std.specs.List.{position_or_len, before_first, after_first}
 use Rattle.std.specs.Str.{bytes_eq}
-use Rattle.net_parts.specs.declared.parts.NetCore.{NetCore}
-use Rattle.net_parts.specs.declared.parts.NetCollector.{NetCollector}
-use Rattle.net_parts.specs.declared.parts.FromEnd.{FromEnd}
-use Rattle.net_parts.specs.declared.parts.FromEnd.TheVariants as from
-use Rattle.net_parts.specs.declared.parts.ToEnd.{ToEnd}
-use Rattle.net_parts.specs.declared.parts.ToEnd.TheVariants as to
-use Rattle.net_parts.specs.Ends.{input_bits, output_bits}
+use Rattle.net_toml.specs.net_parts.declared.parts.NetCore.{NetCore}
+use Rattle.net_toml.specs.net_parts.declared.parts.NetCollector.{NetCollector}
+use Rattle.net_toml.specs.net_parts.declared.parts.FromEnd.{FromEnd}
+use Rattle.net_toml.specs.net_parts.declared.parts.FromEnd.TheVariants as from
+use Rattle.net_toml.specs.net_parts.declared.parts.ToEnd.{ToEnd}
+use Rattle.net_toml.specs.net_parts.declared.parts.ToEnd.TheVariants as to
+use Rattle.net_toml.specs.net_parts.Ends.{input_bits, output_bits}
 use Rattle.net_toml.specs.declared.plan.NetPlan.{NetPlan}
 use Rattle.net_toml.specs.declared.plan.PlanSource.{PlanSource}
 

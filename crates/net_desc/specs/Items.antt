@@ -2,12 +2,12 @@
 use Rattle.std.specs.Prelude.{◌≡◌, ℕ, zero, suc, ◌+◌, ◌*◌, ◌/◌, ◌%◌, ◌^◌, ◌==◌, nat_lt, nat_le, ◌&&◌, Bool, if◌then◌else◌, List, [], ◌∷◌, ◌++◌, length, map, take, drop, fold, find, codes, slice_get, Option, Some, None, Result}
 use Rattle.std.specs.Option.{ok_or}
 use Rattle.std.specs.List.{list_all}
-use Rattle.net_parts.specs.declared.parts.Net.{Net}
-use Rattle.net_parts.specs.declared.parts.NetQueue.{NetQueue}
-use Rattle.net_parts.specs.declared.parts.ToEnd.{ToEnd}
-use Rattle.net_parts.specs.declared.parts.ToEnd.TheVariants as to
-use Rattle.net_parts.specs.Ends.{is_source, input_bits}
-use Rattle.net_parts.specs.Network.{items_of}
+use Rattle.net_toml.specs.net_parts.declared.parts.Net.{Net}
+use Rattle.net_toml.specs.net_parts.declared.parts.NetQueue.{NetQueue}
+use Rattle.net_toml.specs.net_parts.declared.parts.ToEnd.{ToEnd}
+use Rattle.net_toml.specs.net_parts.declared.parts.ToEnd.TheVariants as to
+use Rattle.net_toml.specs.net_parts.Ends.{is_source, input_bits}
+use Rattle.net_toml.specs.net_parts.Network.{items_of}
 use Rattle.net_toml.specs.declared.refusal.NetRule.TheVariants.{Item}
 use Rattle.net_toml.specs.Broken.{Broken}
 use Rattle.net_toml.specs.Names.{place_of}

@@ -3,10 +3,10 @@ use Rattle.std.specs.Prelude.{ℕ, ◌+◌, not, List, [], ◌∷◌, ◌++◌, 
 use Rattle.std.specs.Option.{ok_or}
 use Rattle.std.specs.List.{list_any}
 use Rattle.tie_desc.specs.declared.declarations.QueueDecl.{QueueDecl}
-use Rattle.net_parts.specs.declared.parts.NetCore.{NetCore}
-use Rattle.net_parts.specs.declared.parts.NetCollector.{NetCollector}
-use Rattle.net_parts.specs.declared.parts.NetQueue.{NetQueue}
-use Rattle.net_parts.specs.Ends.{is_input, is_output, is_source, is_collector}
+use Rattle.net_toml.specs.net_parts.declared.parts.NetCore.{NetCore}
+use Rattle.net_toml.specs.net_parts.declared.parts.NetCollector.{NetCollector}
+use Rattle.net_toml.specs.net_parts.declared.parts.NetQueue.{NetQueue}
+use Rattle.net_toml.specs.net_parts.Ends.{is_input, is_output, is_source, is_collector}
 use Rattle.net_toml.specs.declared.refusal.NetRule.TheVariants.{End, Twice, Width, Unwired}
 use Rattle.net_toml.specs.declared.plan.NetPlan.{NetPlan}
 use Rattle.net_toml.specs.declared.plan.PlanSource.{PlanSource}

@@ -4,9 +4,9 @@ use Rattle.std.specs.List.{zip}
 use Rattle.std.specs.declared.alloc.Global.{Global}
 use Rattle.tie_desc.specs.Fetching.{IsImage}
 use Rattle.tie_desc.specs.declared.bundle.Kit.{Kit}
-use Rattle.net_parts.specs.declared.parts.Net.{Net}
-use Rattle.net_parts.specs.declared.parts.NetCore.{NetCore}
-use Rattle.net_parts.specs.declared.parts.NetSource.{NetSource}
+use Rattle.net_toml.specs.net_parts.declared.parts.Net.{Net}
+use Rattle.net_toml.specs.net_parts.declared.parts.NetCore.{NetCore}
+use Rattle.net_toml.specs.net_parts.declared.parts.NetSource.{NetSource}
 use Rattle.net_toml.specs.declared.plan.NetPlan.{NetPlan}
 use Rattle.net_toml.specs.declared.plan.PlanCore.{PlanCore}
 use Rattle.net_toml.specs.declared.plan.PlanSource.{PlanSource}

@@ -6,7 +6,7 @@ ghost use Rattle.std.specs.Str.{bytes_eq};
 ghost use Rattle.net_desc.specs.Ends.{cut, core_number, source_number, collector_number, core_output, core_input, from_end, to_end};
 
 use net_parts::{FromEnd, NetCollector, NetCore, ToEnd};
-use net_toml::{NetPlan, PlanSource};
+use net_toml::{NetPlan, PlanSource, net_parts};
 use tie_desc::{input_named, output_named};
 
 /// The two sides of the first dot.

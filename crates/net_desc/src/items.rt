@@ -2,7 +2,7 @@
 
 ghost use Rattle.std.specs.Prelude.{◌≡◌, ◌++◌, ◌<◌, ◌≤◌, codes, IfOk, OnErr, length};
 ghost use Rattle.std.specs.Option.{option_copied};
-ghost use Rattle.net_parts.specs.Network.{IsNet};
+ghost use Rattle.net_toml.specs.net_parts.Network.{IsNet};
 ghost use Rattle.net_toml.specs.Broken.{GivesAs};
 ghost use Rattle.net_toml.specs.Names.{place_of};
 ghost use Rattle.net_desc.specs.Items.{source_queue, item_bits, to_bits, items_at, source_items, SameBut};
@@ -10,7 +10,7 @@ ghost use Rattle.net_desc.specs.Items.{source_queue, item_bits, to_bits, items_a
 use crate::numbers::items_in;
 use crate::ports::{input_bits, is_source};
 use net_parts::{Net, NetQueue, NetSource, ToEnd};
-use net_toml::{NetRefusal, NetRule, Text};
+use net_toml::{NetRefusal, NetRule, Text, net_parts};
 use std::alloc::{AllocError, Global};
 
 fn source_queue(net: &Net, source: usize) -> Option<&NetQueue>

@@ -10,17 +10,18 @@ mod numbers;
 mod ports;
 mod queues;
 mod single;
-#[cfg(test)]
-mod tests;
 mod wired;
 mod workers;
 
 pub use hex_text::{HexRefusal, HexRule, read_hex};
 pub use items::set_items;
-pub use net_parts::{
+pub use net_toml;
+pub use net_toml::net_parts::{
     CoreEnd, FromEnd, Net, NetCollector, NetCore, NetQueue, NetSource, Outcome, QueueEnd, RunEnd,
     ToEnd,
 };
-pub use net_toml::{NetPlan, NetRefusal, NetRule, PlanCore, PlanQueue, PlanSource, Text, read_net};
+pub use net_toml::{
+    NetPlan, NetRefusal, NetRule, PlanCore, PlanQueue, PlanSource, Text, net_parts, read_net,
+};
 pub use network::wire;
 pub use single::alone;

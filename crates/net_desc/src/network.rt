@@ -1,7 +1,7 @@
 //! A plan with its kits as a network.
 
 ghost use Rattle.std.specs.Prelude.{◌≡◌, ◌≤◌, IfOk, length};
-ghost use Rattle.net_parts.specs.Network.{IsNet};
+ghost use Rattle.net_toml.specs.net_parts.Network.{IsNet};
 ghost use Rattle.net_toml.specs.Broken.{GivesAs};
 ghost use Rattle.net_toml.specs.Limits.{IsPlan};
 ghost use Rattle.net_desc.specs.Workers.{AreKitsOf, HasWorkers, cores_with};
@@ -11,7 +11,7 @@ use crate::queues::queues_of;
 use crate::wired::all_wired;
 use crate::workers::{collectors_of, cores_of, sources_of};
 use net_parts::{Net, NetCore, NetQueue};
-use net_toml::{NetPlan, NetRefusal};
+use net_toml::{NetPlan, NetRefusal, net_parts};
 use std::alloc::Global;
 use tie_desc::Kit;
 

@@ -2,10 +2,11 @@
 
 ghost use Rattle.std.specs.Prelude.{◌≡◌, slice_get};
 ghost use Rattle.std.specs.List.{list_any};
-ghost use Rattle.net_parts.specs.Ends.{is_input, is_output, is_source, is_collector, input_bits, output_bits};
+ghost use Rattle.net_toml.specs.net_parts.Ends.{is_input, is_output, is_source, is_collector, input_bits, output_bits};
 ghost use Rattle.net_desc.specs.Ends.{same_from, same_to, joins, same_width};
 
 use net_parts::{FromEnd, NetCore, NetQueue, ToEnd};
+use net_toml::net_parts;
 
 pub fn same_from(a: FromEnd, b: FromEnd) -> bool
     ensures { result ≡ same_from a b }

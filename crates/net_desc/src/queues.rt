@@ -9,7 +9,7 @@ ghost use Rattle.net_desc.specs.Wiring.{queue_of};
 use crate::ends::{from_end, to_end};
 use crate::ports::{is_from_taken, is_to_taken, joins, same_width};
 use net_parts::{NetCore, NetQueue};
-use net_toml::{NetPlan, NetRefusal, NetRule, PlanQueue, Text};
+use net_toml::{NetPlan, NetRefusal, NetRule, PlanQueue, Text, net_parts};
 use std::alloc::{AllocError, Global};
 
 /// The key of a queue, and what stands behind it.

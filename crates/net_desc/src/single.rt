@@ -2,11 +2,12 @@
 
 ghost use Rattle.std.specs.Prelude.{◌≡◌, ◌++◌, ◌≤◌, codes, IfOk, OnOk, length, map};
 ghost use Rattle.tie_desc.specs.Fetching.{IsImage};
-ghost use Rattle.net_parts.specs.Network.{IsNet};
+ghost use Rattle.net_toml.specs.net_parts.Network.{IsNet};
 ghost use Rattle.net_desc.specs.Workers.{source_parts};
 ghost use Rattle.net_desc.specs.Alone.{alone_core, alone_source, alone_collector, alone_inputs, alone_outputs, IsAlone};
 
 use net_parts::{FromEnd, Net, NetCollector, NetCore, NetQueue, NetSource, ToEnd};
+use net_toml::net_parts;
 use std::alloc::{AllocError, Global};
 use tie_desc::{Kit, Name, QueueDecl};
 

@@ -7,7 +7,7 @@ ghost use Rattle.net_desc.specs.Wiring.{each_number, port_key, input_wired, outp
 
 use crate::ports::{has_collector, has_input, has_output, has_source};
 use net_parts::{NetCollector, NetCore, NetQueue};
-use net_toml::{NetPlan, NetRefusal, NetRule, PlanSource, Text};
+use net_toml::{NetPlan, NetRefusal, NetRule, PlanSource, Text, net_parts};
 use std::alloc::{AllocError, Global};
 use tie_desc::QueueDecl;
 

@@ -4,7 +4,7 @@ ghost use Rattle.std.specs.Prelude.{◌≡◌, IfOk, length, map};
 ghost use Rattle.net_desc.specs.Workers.{cores_with, source_parts, itemless};
 
 use net_parts::{NetCollector, NetCore, NetSource};
-use net_toml::{PlanCore, PlanSource};
+use net_toml::{PlanCore, PlanSource, net_parts};
 use std::alloc::{AllocError, Global};
 use tie_desc::Kit;
 

@@ -9,11 +9,11 @@ use Rattle.std.proofs.Math.Seq.{take-length}
 use Rattle.std.specs.List.{zip}
 use Rattle.tie_desc.specs.Description.{Description}
 use Rattle.tie_desc.specs.Fetching.{IsImage}
-use Rattle.net_toml.specs.declared.refusal.NetRule.{NetRule}
-use Rattle.net_toml.specs.declared.refusal.NetRule.TheVariants as rule
-use Rattle.net_toml.specs.declared.plan.NetPlan.{NetPlan}
-use Rattle.net_toml.specs.declared.plan.PlanCore.{PlanCore}
-use Rattle.net_toml.specs.Broken.{Broken, ◌>>=◌, check}
+use Rattle.net_desc.specs.net_toml.declared.refusal.NetRule.{NetRule}
+use Rattle.net_desc.specs.net_toml.declared.refusal.NetRule.TheVariants as rule
+use Rattle.net_desc.specs.net_toml.declared.plan.NetPlan.{NetPlan}
+use Rattle.net_desc.specs.net_toml.declared.plan.PlanCore.{PlanCore}
+use Rattle.net_desc.specs.net_toml.Broken.{Broken, ◌>>=◌, check}
 use Rattle.net_desc.specs.Workers.{Loaded, IsKitOf, AreKitsOf}
 use Rattle.tie_files.specs.declared.refusal.Refusal.{Refusal}
 use Rattle.tie_files.specs.declared.refusal.Refusal.TheVariants.{NoMemory}

@@ -1,10 +1,10 @@
 -- From the text of a file to the file.
 use Rattle.std.proofs.Common.{◌≡◌, List, ℕ, Result, Ok, Err, Vec, Global, inl, inr}
-use Rattle.net_parts.specs.declared.parts.Net.{Net}
-use Rattle.net_toml.specs.declared.plan.NetPlan.{NetPlan}
-use Rattle.net_toml.specs.declared.plan.PlanCore.{PlanCore}
-use Rattle.net_toml.specs.declared.plan.PlanSource.{PlanSource}
-use Rattle.net_toml.specs.Walk.{plan_in}
+use Rattle.net_desc.specs.net_parts.declared.parts.Net.{Net}
+use Rattle.net_desc.specs.net_toml.declared.plan.NetPlan.{NetPlan}
+use Rattle.net_desc.specs.net_toml.declared.plan.PlanCore.{PlanCore}
+use Rattle.net_desc.specs.net_toml.declared.plan.PlanSource.{PlanSource}
+use Rattle.net_desc.specs.net_toml.Walk.{plan_in}
 use Rattle.tie_files.specs.declared.refusal.Refusal.{Refusal}
 use Rattle.tie_files.specs.Files.{Shelved, IsTextOf, IsWrong, TextIsWrong}
 use Rattle.tie_files.specs.Parts.{Judges}

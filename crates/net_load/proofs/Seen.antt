@@ -2,11 +2,11 @@
 use Rattle.std.proofs.Common.{◌≡◌, ℕ, ◌+◌, List, [], ◌∷◌, Option, Some, None, subst, inl, inr}
 use Rattle.tie_io.specs.Reading.{IsFile}
 use Rattle.tie_desc.specs.Description.{Description}
-use Rattle.net_parts.specs.declared.parts.Net.{Net}
-use Rattle.net_parts.specs.declared.parts.NetSource.{NetSource}
-use Rattle.net_toml.specs.declared.plan.NetPlan.{NetPlan}
-use Rattle.net_toml.specs.declared.plan.PlanCore.{PlanCore}
-use Rattle.net_toml.specs.declared.plan.PlanSource.{PlanSource}
+use Rattle.net_desc.specs.net_parts.declared.parts.Net.{Net}
+use Rattle.net_desc.specs.net_parts.declared.parts.NetSource.{NetSource}
+use Rattle.net_desc.specs.net_toml.declared.plan.NetPlan.{NetPlan}
+use Rattle.net_desc.specs.net_toml.declared.plan.PlanCore.{PlanCore}
+use Rattle.net_desc.specs.net_toml.declared.plan.PlanSource.{PlanSource}
 use Rattle.net_desc.specs.Workers.{Loaded}
 use Rattle.tie_files.specs.declared.refusal.Refusal.{Refusal}
 use Rattle.tie_files.specs.Files.{Shelved, IsTextOf, IsTie, RefusesTie}

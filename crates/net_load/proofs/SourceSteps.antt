@@ -2,15 +2,15 @@
 use Rattle.std.proofs.Common.{◌≡◌, ◌⊎◌, ℕ, zero, suc, ◌+◌, ◌<◌, List, [], ◌∷◌, length, map, Vec, Global, Some, refl, subst, sym, ◌∙◌, ap, arith, inl, inr}
 use Rattle.std.specs.Prelude.{slice_get}
 use Rattle.std.proofs.lemmas.List.{length-map}
-use Rattle.net_parts.specs.declared.parts.Net.{Net}
-use Rattle.net_parts.specs.declared.parts.NetCore.{NetCore}
-use Rattle.net_parts.specs.declared.parts.NetSource.{NetSource}
-use Rattle.net_parts.specs.declared.parts.NetQueue.{NetQueue}
-use Rattle.net_parts.specs.declared.parts.NetCollector.{NetCollector}
-use Rattle.net_parts.specs.Network.{items_of}
-use Rattle.net_toml.specs.declared.plan.NetPlan.{NetPlan}
-use Rattle.net_toml.specs.declared.plan.PlanSource.{PlanSource}
-use Rattle.net_toml.specs.Walk.{source_names}
+use Rattle.net_desc.specs.net_parts.declared.parts.Net.{Net}
+use Rattle.net_desc.specs.net_parts.declared.parts.NetCore.{NetCore}
+use Rattle.net_desc.specs.net_parts.declared.parts.NetSource.{NetSource}
+use Rattle.net_desc.specs.net_parts.declared.parts.NetQueue.{NetQueue}
+use Rattle.net_desc.specs.net_parts.declared.parts.NetCollector.{NetCollector}
+use Rattle.net_desc.specs.net_parts.Network.{items_of}
+use Rattle.net_desc.specs.net_toml.declared.plan.NetPlan.{NetPlan}
+use Rattle.net_desc.specs.net_toml.declared.plan.PlanSource.{PlanSource}
+use Rattle.net_desc.specs.net_toml.Walk.{source_names}
 use Rattle.net_desc.specs.Items.{source_items, SameBut}
 use Rattle.net_desc.specs.Workers.{source_parts, itemless}
 use Rattle.tie_files.specs.declared.refusal.Refusal.{Refusal}

@@ -1,8 +1,8 @@
 -- Steps one after the other.
 use Rattle.std.proofs.Common.{ℕ, ◌+◌, List, [], ◌∷◌, ◌++◌, Option, Some, None, inl, inr}
 use Rattle.tie_desc.specs.Description.{Description}
-use Rattle.net_toml.specs.declared.plan.NetPlan.{NetPlan}
-use Rattle.net_toml.specs.declared.plan.PlanCore.{PlanCore}
+use Rattle.net_desc.specs.net_toml.declared.plan.NetPlan.{NetPlan}
+use Rattle.net_desc.specs.net_toml.declared.plan.PlanCore.{PlanCore}
 use Rattle.net_desc.specs.Workers.{Loaded}
 use Rattle.tie_files.specs.declared.refusal.Refusal.{Refusal}
 use Rattle.tie_files.specs.Files.{Shelved}

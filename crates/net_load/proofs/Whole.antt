@@ -1,11 +1,11 @@
 -- A network file with the files that it names.
 use Rattle.std.proofs.Common.{◌≡◌, ◌⊎◌, ℕ, List, ◌∷◌, Vec, Global, Ok, sym, ◌∙◌, ap, inl, inr}
-use Rattle.net_parts.specs.declared.parts.Net.{Net}
-use Rattle.net_parts.specs.declared.parts.NetCore.{NetCore}
-use Rattle.net_parts.specs.declared.parts.NetCollector.{NetCollector}
-use Rattle.net_parts.specs.declared.parts.NetQueue.{NetQueue}
-use Rattle.net_toml.specs.declared.plan.NetPlan.{NetPlan}
-use Rattle.net_toml.specs.Walk.{plan_in}
+use Rattle.net_desc.specs.net_parts.declared.parts.Net.{Net}
+use Rattle.net_desc.specs.net_parts.declared.parts.NetCore.{NetCore}
+use Rattle.net_desc.specs.net_parts.declared.parts.NetCollector.{NetCollector}
+use Rattle.net_desc.specs.net_parts.declared.parts.NetQueue.{NetQueue}
+use Rattle.net_desc.specs.net_toml.declared.plan.NetPlan.{NetPlan}
+use Rattle.net_desc.specs.net_toml.Walk.{plan_in}
 use Rattle.net_desc.specs.Workers.{Loaded, HasWorkers, cores_with}
 use Rattle.net_desc.specs.Wiring.{wiring}
 use Rattle.tie_files.specs.declared.refusal.Refusal.{Refusal}

@@ -2,12 +2,12 @@
 use Rattle.std.specs.Prelude.{◌≡◌, ℕ, ◌+◌, List, [], ◌∷◌, Option, Some, None, Ok}
 use Rattle.tie_desc.specs.Description.{Description}
 use Rattle.tie_desc.specs.Fetching.{IsImage}
-use Rattle.net_parts.specs.declared.parts.Net.{Net}
-use Rattle.net_parts.specs.declared.parts.NetSource.{NetSource}
-use Rattle.net_toml.specs.declared.plan.NetPlan.{NetPlan}
-use Rattle.net_toml.specs.declared.plan.PlanCore.{PlanCore}
-use Rattle.net_toml.specs.declared.plan.PlanSource.{PlanSource}
-use Rattle.net_toml.specs.Walk.{plan_in}
+use Rattle.net_desc.specs.net_parts.declared.parts.Net.{Net}
+use Rattle.net_desc.specs.net_parts.declared.parts.NetSource.{NetSource}
+use Rattle.net_desc.specs.net_toml.declared.plan.NetPlan.{NetPlan}
+use Rattle.net_desc.specs.net_toml.declared.plan.PlanCore.{PlanCore}
+use Rattle.net_desc.specs.net_toml.declared.plan.PlanSource.{PlanSource}
+use Rattle.net_desc.specs.net_toml.Walk.{plan_in}
 use Rattle.net_desc.specs.Workers.{Loaded, cores_with, HasWorkers}
 use Rattle.net_desc.specs.Wiring.{wiring}
 use Rattle.tie_files.specs.Files.{Shelved, IsTextOf, IsTie}

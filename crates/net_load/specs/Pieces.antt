@@ -1,11 +1,11 @@
 -- What is answered on the way to a network, one file at a time.
 use Rattle.std.specs.Prelude.{◌≡◌, ◌⊎◌, ℕ, List, Option, Some, None, Ok}
 use Rattle.tie_desc.specs.Description.{Description}
-use Rattle.net_parts.specs.declared.parts.Net.{Net}
-use Rattle.net_toml.specs.declared.plan.PlanCore.{PlanCore}
-use Rattle.net_toml.specs.declared.plan.PlanSource.{PlanSource}
-use Rattle.net_toml.specs.declared.refusal.NetRefusal.{NetRefusal}
-use Rattle.net_toml.specs.declared.refusal.NetRefusal.TheVariants as plans
+use Rattle.net_desc.specs.net_parts.declared.parts.Net.{Net}
+use Rattle.net_desc.specs.net_toml.declared.plan.PlanCore.{PlanCore}
+use Rattle.net_desc.specs.net_toml.declared.plan.PlanSource.{PlanSource}
+use Rattle.net_desc.specs.net_toml.declared.refusal.NetRefusal.{NetRefusal}
+use Rattle.net_desc.specs.net_toml.declared.refusal.NetRefusal.TheVariants as plans
 use Rattle.tie_files.specs.declared.refusal.Refusal.{Refusal}
 use Rattle.tie_files.specs.declared.refusal.Refusal.TheVariants.{NetRefused, NoMemory}
 use Rattle.tie_files.specs.Files.{Shelved, IsTextOf, RefusesTie, IsWrong}

@@ -1,11 +1,11 @@
 -- In which order the files of a network are judged, and the first refusal.
 use Rattle.std.specs.Prelude.{◌≡◌, ◌⊎◌, ℕ, ◌+◌, List, [], ◌∷◌, ◌++◌, Option, Some, None, Ok}
 use Rattle.tie_desc.specs.Description.{Description}
-use Rattle.net_parts.specs.declared.parts.Net.{Net}
-use Rattle.net_toml.specs.declared.plan.NetPlan.{NetPlan}
-use Rattle.net_toml.specs.declared.plan.PlanCore.{PlanCore}
-use Rattle.net_toml.specs.declared.plan.PlanSource.{PlanSource}
-use Rattle.net_toml.specs.Walk.{plan_in}
+use Rattle.net_desc.specs.net_parts.declared.parts.Net.{Net}
+use Rattle.net_desc.specs.net_toml.declared.plan.NetPlan.{NetPlan}
+use Rattle.net_desc.specs.net_toml.declared.plan.PlanCore.{PlanCore}
+use Rattle.net_desc.specs.net_toml.declared.plan.PlanSource.{PlanSource}
+use Rattle.net_desc.specs.net_toml.Walk.{plan_in}
 use Rattle.net_desc.specs.Workers.{Loaded, cores_with}
 use Rattle.net_desc.specs.Wiring.{wiring}
 use Rattle.tie_files.specs.declared.refusal.Refusal.{Refusal}

@@ -2,12 +2,12 @@
 use Rattle.std.specs.Prelude.{◌≡◌, ℕ, nat_le, ◌&&◌, List, ◌++◌, length, codes, Result, Ok, Err}
 use Rattle.hex_text.specs.declared.hexadecimal.HexRule.{HexRule}
 use Rattle.hex_text.specs.Hexadecimal.{hex_bytes}
-use Rattle.net_parts.specs.declared.parts.Net.{Net}
-use Rattle.net_toml.specs.declared.refusal.NetRule.{NetRule}
-use Rattle.net_toml.specs.declared.refusal.NetRule.TheVariants.{Hex, Image}
-use Rattle.net_toml.specs.declared.plan.PlanCore.{PlanCore}
-use Rattle.net_toml.specs.Broken.{Broken, ◌>>=◌, check}
-use Rattle.net_toml.specs.Names.{place_of}
+use Rattle.net_desc.specs.net_parts.declared.parts.Net.{Net}
+use Rattle.net_desc.specs.net_toml.declared.refusal.NetRule.{NetRule}
+use Rattle.net_desc.specs.net_toml.declared.refusal.NetRule.TheVariants.{Hex, Image}
+use Rattle.net_desc.specs.net_toml.declared.plan.PlanCore.{PlanCore}
+use Rattle.net_desc.specs.net_toml.Broken.{Broken, ◌>>=◌, check}
+use Rattle.net_desc.specs.net_toml.Names.{place_of}
 use Rattle.net_desc.specs.Items.{items_at}
 use Rattle.tie_files.specs.declared.refusal.Refusal.{Refusal}
 use Rattle.tie_files.specs.declared.refusal.Refusal.TheVariants.{NetRefused}

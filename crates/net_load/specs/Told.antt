@@ -1,8 +1,8 @@
 -- Shelves that tell all files of a network, and on which no read of them fails.
 use Rattle.std.specs.Prelude.{◌≡◌, ℕ, List, [], ◌∷◌, Some, Ok}
 use Rattle.tie_io.specs.Counts.{Rose}
-use Rattle.net_toml.specs.declared.plan.NetPlan.{NetPlan}
-use Rattle.net_toml.specs.Walk.{plan_in}
+use Rattle.net_desc.specs.net_toml.declared.plan.NetPlan.{NetPlan}
+use Rattle.net_desc.specs.net_toml.Walk.{plan_in}
 use Rattle.tie_files.specs.Files.{Shelved}
 use Rattle.net_load.specs.Steps.{Step, Tie, Image, Wires, Items, steps}
 

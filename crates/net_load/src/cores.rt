@@ -10,6 +10,7 @@ ghost use Rattle.net_load.specs.Steps.{cores_steps, FirstStuck};
 ghost use Rattle.net_load.specs.Pieces.{IsDescWrong, IsImageOf, IsImageWrong, IsCoreWrong};
 
 use crate::texts::{image_in, refused};
+use net_desc::net_toml;
 use net_toml::{NetPlan, PlanCore, Text};
 use std::alloc::Global;
 use tie_desc::{Desc, Kit};

@@ -8,8 +8,10 @@ mod cores;
 mod load;
 mod plans;
 mod sources;
-#[cfg(test)]
-mod tests;
 mod texts;
 
 pub use load::load_net;
+pub use net_desc;
+pub use net_desc::net_toml;
+pub use tie_files;
+pub use tie_files::tie_front;

@@ -1,7 +1,7 @@
 //! The network of a file.
 
 ghost use Rattle.std.specs.Prelude.{◌≡◌, ◌≤◌, IfOk, List, ℕ};
-ghost use Rattle.net_parts.specs.Network.{IsNet};
+ghost use Rattle.net_desc.specs.net_parts.Network.{IsNet};
 ghost use Rattle.tie_files.specs.Files.{shelved};
 ghost use Rattle.tie_files.specs.Parts.{Judges};
 ghost use Rattle.net_load.specs.Loaded.{IsNetOf};
@@ -10,6 +10,7 @@ ghost use Rattle.net_load.specs.Steps.{IsRefusedNet};
 use crate::cores::load_kits;
 use crate::plans::{read_plan, wire_net};
 use crate::sources::load_items;
+use net_desc::net_parts;
 use net_parts::Net;
 use std::alloc::Global;
 use tie_files::Refusal;

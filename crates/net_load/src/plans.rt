@@ -1,9 +1,9 @@
 //! The plan in a network file, and the network that it wires.
 
 ghost use Rattle.std.specs.Prelude.{◌≡◌, ◌≤◌, IfOk, List, Ok, ℕ, length};
-ghost use Rattle.net_parts.specs.Network.{IsNet};
-ghost use Rattle.net_toml.specs.Limits.{IsPlan};
-ghost use Rattle.net_toml.specs.Walk.{plan_in};
+ghost use Rattle.net_desc.specs.net_parts.Network.{IsNet};
+ghost use Rattle.net_desc.specs.net_toml.Limits.{IsPlan};
+ghost use Rattle.net_desc.specs.net_toml.Walk.{plan_in};
 ghost use Rattle.net_desc.specs.Workers.{AreKitsOf, HasWorkers, cores_with};
 ghost use Rattle.net_desc.specs.Wiring.{wiring};
 ghost use Rattle.tie_files.specs.Files.{shelved, IsWrong};
@@ -12,7 +12,7 @@ ghost use Rattle.net_load.specs.Texts.{Breaks};
 ghost use Rattle.net_load.specs.Loaded.{IsPlanOf};
 
 use crate::texts::refused;
-use net_desc::wire;
+use net_desc::{net_parts, net_toml, wire};
 use net_parts::Net;
 use net_toml::{NetPlan, read_net};
 use std::alloc::Global;

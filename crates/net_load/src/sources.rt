@@ -1,7 +1,7 @@
 //! The sources of a plan: the file of the items of each.
 
 ghost use Rattle.std.specs.Prelude.{◌≡◌, ◌<◌, ◌≤◌, List, Ok, ℕ, length};
-ghost use Rattle.net_parts.specs.Network.{IsNet};
+ghost use Rattle.net_desc.specs.net_parts.Network.{IsNet};
 ghost use Rattle.net_desc.specs.Items.{source_items, SameBut};
 ghost use Rattle.tie_files.specs.Files.{shelved};
 ghost use Rattle.tie_files.specs.Parts.{Judges};
@@ -11,6 +11,7 @@ ghost use Rattle.net_load.specs.Steps.{sources_steps, FirstStuck};
 ghost use Rattle.net_load.specs.Pieces.{AreItemsOf, AreItemsWrong, SameAround};
 
 use crate::texts::{give_items, refused};
+use net_desc::{net_parts, net_toml};
 use net_parts::Net;
 use net_toml::{NetPlan, PlanSource};
 use std::alloc::Global;

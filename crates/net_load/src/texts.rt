@@ -1,15 +1,15 @@
 //! What the texts of the files say that a network file names, and how the network file is refused.
 
 ghost use Rattle.std.specs.Prelude.{◌≡◌, ◌⊎◌, ◌<◌, ◌≤◌, ◌&&◌, ◌++◌, codes, nat_le, IfOk, length};
-ghost use Rattle.net_parts.specs.Network.{IsNet};
-ghost use Rattle.net_toml.specs.Broken.{GivesAs};
+ghost use Rattle.net_desc.specs.net_parts.Network.{IsNet};
+ghost use Rattle.net_desc.specs.net_toml.Broken.{GivesAs};
 ghost use Rattle.net_desc.specs.Items.{source_items, SameBut};
 ghost use Rattle.tie_files.specs.declared.refusal.Refusal.TheVariants.{NoMemory};
 ghost use Rattle.net_load.specs.Pieces.{refusal_of};
 ghost use Rattle.net_load.specs.Texts.{hex_in, image_key, image_in, items_key, items_in};
 
 use hex_text::{HexRefusal, read_hex};
-use net_desc::set_items;
+use net_desc::{net_parts, net_toml, set_items};
 use net_parts::Net;
 use net_toml::{NetRefusal, NetRule, PlanCore, Text};
 use std::alloc::{AllocError, Global};

@@ -13,13 +13,13 @@ mod ports;
 mod reference;
 mod rounds;
 mod running;
-#[cfg(test)]
-mod tests;
 mod turns;
 
 pub use laws::network_is_wired;
 pub use moves::has_bit;
+pub use net_parts;
 pub use net_parts::{CoreEnd, Net, QueueEnd, RunEnd};
 pub use ports::{collector_queue, input_queue, output_queue};
 pub use reference::{ref_run, strict_run};
+pub use xt_exec;
 pub use xt_exec::NoMemory;

@@ -5,3 +5,4 @@ pub mod Names
 pub mod Earlier
 pub mod Tables
 pub mod Walk
+pub use Rattle.net_parts.specs as net_parts

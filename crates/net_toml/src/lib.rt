@@ -10,12 +10,11 @@ mod plan;
 mod queues;
 mod refusal;
 mod sources;
-#[cfg(test)]
-mod tests;
 mod text;
 mod values;
 mod walk;
 
+pub use net_parts;
 pub use plan::{NetPlan, PlanCore, PlanQueue, PlanSource};
 pub use refusal::{NetRefusal, NetRule};
 pub use text::Text;

@@ -12,20 +12,20 @@ use Rattle.xt_core.specs.declared.ending.Ending.{Ending}
 use Rattle.xt_core.specs.declared.ending.Ending.TheVariants as endings
 use Rattle.xt_core.specs.declared.ending.Trap.{Trap}
 use Rattle.xt_state.specs.State.{State}
-use Rattle.xt_exec.specs.Step.{bundle_at, trapped}
-use Rattle.net_parts.specs.declared.ends.CoreEnd.{CoreEnd}
-use Rattle.net_parts.specs.declared.ends.RunEnd.{RunEnd}
-use Rattle.net_parts.specs.declared.parts.Net.{Net}
-use Rattle.net_parts.specs.declared.parts.NetCore.{NetCore}
-use Rattle.net_parts.specs.Network.{IsNet}
-use Rattle.net_ref.specs.Place.{CoreAt, Place}
-use Rattle.net_ref.specs.Processor.{fetched_pops, fetched_pushes, is_running, next_pops, next_pushes, next_trap}
-use Rattle.net_ref.specs.Reference.{IsCoreEnd, IsEnd, gate_of, rounds_of}
-use Rattle.net_ref.specs.Workers.{capacity_of, core_rule, input_queue, network, output_queue, reader, writer}
-use Rattle.net_ref.proofs.CoreTurns.{core_rule_is}
-use Rattle.net_ref.proofs.Places.{none_past}
-use Rattle.net_ref.proofs.Steps.{met_trap, still_running}
-use Rattle.net_ref.proofs.Wiring.{input_below, input_reader, output_below, output_writer}
+use Rattle.tie_report.specs.xt_exec.Step.{bundle_at, trapped}
+use Rattle.tie_report.specs.net_parts.declared.ends.CoreEnd.{CoreEnd}
+use Rattle.tie_report.specs.net_parts.declared.ends.RunEnd.{RunEnd}
+use Rattle.tie_report.specs.net_parts.declared.parts.Net.{Net}
+use Rattle.tie_report.specs.net_parts.declared.parts.NetCore.{NetCore}
+use Rattle.tie_report.specs.net_parts.Network.{IsNet}
+use Rattle.tie_report.specs.net_ref.Place.{CoreAt, Place}
+use Rattle.tie_report.specs.net_ref.Processor.{fetched_pops, fetched_pushes, is_running, next_pops, next_pushes, next_trap}
+use Rattle.tie_report.specs.net_ref.Reference.{IsCoreEnd, IsEnd, gate_of, rounds_of}
+use Rattle.tie_report.specs.net_ref.Workers.{capacity_of, core_rule, input_queue, network, output_queue, reader, writer}
+use Rattle.tie_report.proofs.net_ref_proofs.CoreTurns.{core_rule_is}
+use Rattle.tie_report.proofs.net_ref_proofs.Places.{none_past}
+use Rattle.tie_report.proofs.net_ref_proofs.Steps.{met_trap, still_running}
+use Rattle.tie_report.proofs.net_ref_proofs.Wiring.{input_below, input_reader, output_below, output_writer}
 use Rattle.tie_report.specs.Standing.{first_empty, first_full, is_empty, is_full, standing, standing_by, waiting}
 use Rattle.stop_law.specs.Finished.{IsStill}
 use Rattle.stop_law.proofs.Ports.{chosen_below, found}

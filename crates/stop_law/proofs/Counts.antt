@@ -7,11 +7,11 @@ use Rattle.std.proofs.lemmas.Option.{same_Some}
 use Rattle.kahn_law.specs.Worker.{Local, loc, start}
 use Rattle.kahn_law.proofs.Lists.{item_at}
 use Rattle.kahn_law.proofs.Runs.{heads_length, loc_parts, move_parts}
-use Rattle.net_parts.specs.declared.parts.Net.{Net}
-use Rattle.net_parts.specs.declared.parts.NetCollector.{NetCollector}
-use Rattle.net_parts.specs.declared.parts.NetSource.{NetSource}
-use Rattle.net_ref.specs.Place.{CollectorAt, Place, SourceAt}
-use Rattle.net_ref.specs.Workers.{collector_rule, collector_worker, core_count, first_at, source_count, source_queue, source_rule, source_worker}
+use Rattle.tie_report.specs.net_parts.declared.parts.Net.{Net}
+use Rattle.tie_report.specs.net_parts.declared.parts.NetCollector.{NetCollector}
+use Rattle.tie_report.specs.net_parts.declared.parts.NetSource.{NetSource}
+use Rattle.tie_report.specs.net_ref.Place.{CollectorAt, Place, SourceAt}
+use Rattle.tie_report.specs.net_ref.Workers.{collector_rule, collector_worker, core_count, first_at, source_count, source_queue, source_rule, source_worker}
 
 pub source_begins : (net : Net) (s : ℕ) → s < source_count net → first_at net (source_worker net s) ≡ SourceAt 0
 source_begins net s lt =

@@ -6,16 +6,16 @@ use Rattle.std.proofs.lemmas.Option.{slice_get_within}
 use Rattle.kahn_law.specs.Network as law
 use Rattle.kahn_law.specs.Worker.{Rule, heads, loc}
 use Rattle.kahn_law.proofs.Rounds.{in_budget, run_at}
-use Rattle.net_parts.specs.declared.ends.RunEnd.{RunEnd}
-use Rattle.net_parts.specs.declared.parts.Net.{Net}
-use Rattle.net_parts.specs.declared.parts.NetCollector.{NetCollector}
-use Rattle.net_parts.specs.declared.parts.NetSource.{NetSource}
-use Rattle.net_ref.specs.Place.{CollectorAt, Place, SourceAt}
-use Rattle.net_ref.specs.Reference.{gate_of, rounds_of}
-use Rattle.net_ref.specs.Workers.{capacity_of, collector_queue, collector_rule, collector_worker, network, reader, source_queue, source_rule, source_worker, writer}
-use Rattle.net_ref.proofs.Others.{collector_rule_is, source_rule_is}
-use Rattle.net_ref.proofs.Places.{none_past}
-use Rattle.net_ref.proofs.Wiring.{collector_below, collector_reader, source_below, source_writer}
+use Rattle.tie_report.specs.net_parts.declared.ends.RunEnd.{RunEnd}
+use Rattle.tie_report.specs.net_parts.declared.parts.Net.{Net}
+use Rattle.tie_report.specs.net_parts.declared.parts.NetCollector.{NetCollector}
+use Rattle.tie_report.specs.net_parts.declared.parts.NetSource.{NetSource}
+use Rattle.tie_report.specs.net_ref.Place.{CollectorAt, Place, SourceAt}
+use Rattle.tie_report.specs.net_ref.Reference.{gate_of, rounds_of}
+use Rattle.tie_report.specs.net_ref.Workers.{capacity_of, collector_queue, collector_rule, collector_worker, network, reader, source_queue, source_rule, source_worker, writer}
+use Rattle.tie_report.proofs.net_ref_proofs.Others.{collector_rule_is, source_rule_is}
+use Rattle.tie_report.proofs.net_ref_proofs.Places.{none_past}
+use Rattle.tie_report.proofs.net_ref_proofs.Wiring.{collector_below, collector_reader, source_below, source_writer}
 use Rattle.tie_report.specs.Standing.{is_empty, is_full}
 use Rattle.stop_law.specs.Finished.{has_pushed}
 use Rattle.stop_law.proofs.Cores.{IsAtStop}

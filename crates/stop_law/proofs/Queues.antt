@@ -11,12 +11,12 @@ use Rattle.kahn_law.proofs.Room.{strict_keeps_room}
 use Rattle.kahn_law.proofs.Rounds.{run_at}
 use Rattle.kahn_law.proofs.Runs.{consumed_there}
 use Rattle.kahn_law.proofs.Strict.{reaches_causal_set}
-use Rattle.net_parts.specs.declared.ends.RunEnd.{RunEnd}
-use Rattle.net_parts.specs.declared.parts.Net.{Net}
-use Rattle.net_parts.specs.Network.{IsNet}
-use Rattle.net_ref.specs.Reference.{IsEnd, gate_of, queue_end, rounds_of}
-use Rattle.net_ref.specs.Workers.{Nodes, capacity_of, network, reader, writer}
-use Rattle.net_ref.proofs.WiredLemmas.{is_wired}
+use Rattle.tie_report.specs.net_parts.declared.ends.RunEnd.{RunEnd}
+use Rattle.tie_report.specs.net_parts.declared.parts.Net.{Net}
+use Rattle.tie_report.specs.net_parts.Network.{IsNet}
+use Rattle.tie_report.specs.net_ref.Reference.{IsEnd, gate_of, queue_end, rounds_of}
+use Rattle.tie_report.specs.net_ref.Workers.{Nodes, capacity_of, network, reader, writer}
+use Rattle.tie_report.proofs.net_ref_proofs.WiredLemmas.{is_wired}
 use Rattle.tie_report.specs.Standing.{is_empty, is_full}
 
 -- no worker consumes more than its queue's history has

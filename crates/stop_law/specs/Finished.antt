@@ -1,14 +1,14 @@
 -- Where a run of a network has finished: nobody waits without cause.
 use Rattle.std.specs.Prelude.{◌≡◌, ◌⊎◌, ℕ, ◌==◌, Bool, true, false, IsTrue, Vec, length, Option, Some, None, slice_get}
 use Rattle.std.specs.Global.{Global}
-use Rattle.net_parts.specs.declared.parts.Net.{Net}
-use Rattle.net_parts.specs.declared.parts.NetCore.{NetCore}
-use Rattle.net_parts.specs.declared.parts.NetSource.{NetSource}
-use Rattle.net_parts.specs.declared.parts.NetCollector.{NetCollector}
-use Rattle.net_parts.specs.declared.ends.CoreEnd.{CoreEnd}
-use Rattle.net_parts.specs.declared.ends.QueueEnd.{QueueEnd}
-use Rattle.net_parts.specs.declared.ends.RunEnd.{RunEnd}
-use Rattle.net_ref.specs.Workers.{capacity_of, collector_queue, source_queue}
+use Rattle.tie_report.specs.net_parts.declared.parts.Net.{Net}
+use Rattle.tie_report.specs.net_parts.declared.parts.NetCore.{NetCore}
+use Rattle.tie_report.specs.net_parts.declared.parts.NetSource.{NetSource}
+use Rattle.tie_report.specs.net_parts.declared.parts.NetCollector.{NetCollector}
+use Rattle.tie_report.specs.net_parts.declared.ends.CoreEnd.{CoreEnd}
+use Rattle.tie_report.specs.net_parts.declared.ends.QueueEnd.{QueueEnd}
+use Rattle.tie_report.specs.net_parts.declared.ends.RunEnd.{RunEnd}
+use Rattle.tie_report.specs.net_ref.Workers.{capacity_of, collector_queue, source_queue}
 use Rattle.tie_report.specs.declared.standing.Standing.{Standing}
 use Rattle.tie_report.specs.declared.standing.Standing.TheVariants.{Halted, Trapped, Spent, Empty, Full, Running}
 use Rattle.tie_report.specs.Standing.{is_empty, is_full, standing}

@@ -5,10 +5,10 @@
 #![tactic(auto)]
 
 ghost use Rattle.std.specs.Prelude.{Bool};
-ghost use Rattle.net_parts.specs.Network.{IsNet};
-ghost use Rattle.net_parts.specs.declared.ends.RunEnd.{RunEnd};
-ghost use Rattle.net_parts.specs.declared.parts.Net.{Net};
-ghost use Rattle.net_ref.specs.Reference.{IsStop};
+ghost use Rattle.tie_report.specs.net_parts.Network.{IsNet};
+ghost use Rattle.tie_report.specs.net_parts.declared.ends.RunEnd.{RunEnd};
+ghost use Rattle.tie_report.specs.net_parts.declared.parts.Net.{Net};
+ghost use Rattle.tie_report.specs.net_ref.Reference.{IsStop};
 ghost use Rattle.stop_law.specs.Finished.{IsFinished};
 
 /// Both references, with queues that have no bound and with queues that have capacities, stop nowhere short.

@@ -18,11 +18,7 @@ mod limit;
 mod lists;
 mod place;
 mod refusal;
-#[cfg(test)]
-mod shown;
 mod symbols;
-#[cfg(test)]
-mod tests;
 mod token;
 
 use refusal::Refusal;

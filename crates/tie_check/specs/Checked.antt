@@ -4,11 +4,11 @@ use Rattle.tie_expr.specs.declared.node.Node.{Node}
 use Rattle.tie_grammar.specs.declared.tree.Operation.{Operation}
 use Rattle.tie_grammar.specs.declared.tree.Tree.{Tree}
 use Rattle.tie_desc.specs.Description.{Description}
-use Rattle.tie_rules.specs.Least.{NoneBroken}
-use Rattle.tie_rules.specs.RuleBook as book
-use Rattle.tie_results.specs.Results.{AreResults}
-use Rattle.tie_describe.specs.Operations.{operations}
-use Rattle.tie_describe.specs.Described.{described}
+use Rattle.tie_sizes_law.specs.tie_rules.Least.{NoneBroken}
+use Rattle.tie_sizes_law.specs.tie_rules.RuleBook as book
+use Rattle.tie_sizes_law.specs.tie_results.Results.{AreResults}
+use Rattle.tie_description_law.specs.tie_describe.Operations.{operations}
+use Rattle.tie_description_law.specs.tie_describe.Described.{described}
 
 -- each operation has its results: one expression per written operand, which means what the operation writes
 abbrev pub AllResults : Tree → List Operation → List (List Node) → Type 0

@@ -5,9 +5,9 @@
 #![tactic(auto)]
 
 ghost use Rattle.std.specs.Prelude.{◌≡◌, ℕ, IfOk, OnOk, Err};
-ghost use Rattle.tie_rules.specs.RuleBook as book;
-ghost use Rattle.tie_rules.specs.Least.{IsFirst, NoneBroken};
-ghost use Rattle.tie_shape.specs.Shape.{IsRead};
+ghost use Rattle.tie_sizes_law.specs.tie_rules.RuleBook as book;
+ghost use Rattle.tie_sizes_law.specs.tie_rules.Least.{IsFirst, NoneBroken};
+ghost use Rattle.tie_description_law.specs.tie_tree_law.Shape.{IsRead};
 ghost use Rattle.tie_check.specs.Checked.{Accepted};
 
 mod operations;
@@ -18,12 +18,14 @@ pub use refusal::CheckRefusal;
 use std::alloc::Global;
 use tie_desc::Desc;
 use tie_describe::describe;
-use tie_facts::facts;
+use tie_description_law::facts;
+pub use tie_description_law::{tie_describe, tie_tree_law};
 use tie_grammar::tree::Tree;
 use tie_results::{NoMemory, functions_of};
 use tie_rules::{RuleRefusal, judge};
-use tie_shape::read_trees;
-use tie_sound::{sound_operation, sound_text};
+pub use tie_sizes_law::tie_rules;
+use tie_sizes_law::{sound_operation, sound_text, tie_results};
+use tie_tree_law::read_trees;
 
 /// The description of a text that breaks no rule.
 fn described(alloc: Global, tree: &Tree) -> Result<Desc, NoMemory>

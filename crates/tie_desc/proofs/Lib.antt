@@ -2,5 +2,4 @@ pub mod Lists
 pub mod NameLemmas
 pub mod FormatLemmas
 pub mod SlotLemmas
-pub mod Example
 mod Rows

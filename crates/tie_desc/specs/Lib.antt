@@ -8,4 +8,3 @@ pub mod Invariant
 pub mod Spots
 pub mod Spelling
 pub mod Fetching
-pub mod Example

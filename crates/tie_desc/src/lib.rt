@@ -13,8 +13,6 @@ mod name;
 mod names;
 mod operands;
 mod sequence;
-#[cfg(test)]
-mod tests;
 
 pub use bundle::{Bundle, Fetched, Image, Kit, Part, Spot};
 pub use declarations::{Access, FileDecl, Kind, OpDecl, Operand, QueueDecl, RangeDecl, StateDecl};

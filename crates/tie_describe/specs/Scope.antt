@@ -1,7 +1,7 @@
 -- What the code passes down: the declarations that operands may speak of.
 use Rattle.std.specs.Prelude.{◌≡◌, IsTrue, All}
 use Rattle.tie_desc.specs.Names.{is_word}
-use Rattle.tie_shape.specs.Shape.{kept_names}
+use Rattle.tie_tree_law.specs.Shape.{kept_names}
 use Rattle.tie_grammar.specs.declared.tree.Decl.{Decl}
 use Rattle.tie_grammar.specs.declared.tree.Tree.{Tree}
 use Rattle.tie_describe.specs.Operations.{states, files, ranges, inputs, outputs}

@@ -1,7 +1,7 @@
 //! States, register files, ranges and queues.
 
 ghost use Rattle.std.specs.Prelude.{◌≡◌, All, IfOk};
-ghost use Rattle.tie_shape.specs.Shape.{NamesAreWords};
+ghost use Rattle.tie_tree_law.specs.Shape.{NamesAreWords};
 ghost use Rattle.tie_describe.specs.Operations as spec;
 
 use crate::each::{Pick, pick_all};

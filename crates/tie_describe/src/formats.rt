@@ -4,7 +4,7 @@ ghost use Rattle.std.specs.Prelude.{◌≡◌, IfOk, All, Some, position, []};
 ghost use Rattle.std.specs.List.{find, flat_map};
 ghost use Rattle.std.specs.Str.{bytes_eq};
 ghost use Rattle.tie_desc.specs.Invariant.{formats_of_width};
-ghost use Rattle.tie_shape.specs.Shape.{NamesAreWords};
+ghost use Rattle.tie_tree_law.specs.Shape.{NamesAreWords};
 ghost use Rattle.tie_rules.specs.Declarations as rule;
 ghost use Rattle.tie_rules.specs.Schedules.{opcodes, opcodes_of};
 ghost use Rattle.tie_describe.specs.Formats as spec;

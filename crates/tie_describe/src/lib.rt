@@ -5,7 +5,7 @@
 #![tactic(auto)]
 
 ghost use Rattle.std.specs.Prelude.{◌≡◌, map, IfOk};
-ghost use Rattle.tie_shape.specs.Shape.{NamesAreWords};
+ghost use Rattle.tie_tree_law.specs.Shape.{NamesAreWords};
 ghost use Rattle.tie_describe.specs.Described.{described};
 ghost use Rattle.tie_describe.specs.Answers.{description_of};
 
@@ -16,8 +16,6 @@ mod numbers;
 mod operands;
 mod operations;
 mod stages;
-#[cfg(test)]
-mod tests;
 
 use declarations::{files, inputs, outputs, ranges, states};
 use formats::formats;
@@ -28,6 +26,7 @@ use tie_desc::{FileDecl, FormatDecl, OpDecl, QueueDecl, RangeDecl, StateDecl};
 use tie_expr::Expr;
 use tie_grammar::tree::Tree;
 use tie_mean::NoMemory;
+pub use tie_tree_law;
 
 /// The seven lists of a description.
 #[derive(Drop)]

@@ -2,7 +2,7 @@
 
 ghost use Rattle.std.specs.Prelude.{◌≡◌, IfOk, All, map, drop};
 ghost use Rattle.std.specs.List.{flat_map};
-ghost use Rattle.tie_shape.specs.Shape.{NamesAreWords};
+ghost use Rattle.tie_tree_law.specs.Shape.{NamesAreWords};
 ghost use Rattle.tie_describe.specs.Operations as spec;
 ghost use Rattle.tie_describe.specs.Results.{first_results};
 ghost use Rattle.tie_describe.specs.Described.{ops};

@@ -2,6 +2,5 @@ pub mod Bounds
 pub mod Masks
 pub mod Rows
 pub mod Substitute
-pub mod Tables
 pub mod TwosComplement
 pub mod Typed

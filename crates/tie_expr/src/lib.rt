@@ -12,8 +12,6 @@ mod node;
 mod operate;
 mod ops;
 mod replace;
-#[cfg(test)]
-mod tests;
 mod weight;
 mod words;
 

@@ -10,3 +10,4 @@ mod texts;
 pub use net_toml::Text;
 pub use reading::{read_file, read_hex_file, read_source_file, read_tie_file};
 pub use refusal::Refusal;
+pub use tie_front;

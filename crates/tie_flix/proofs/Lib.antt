@@ -5,4 +5,3 @@ pub mod Fetched
 pub mod Refetched
 pub mod WordBounds
 pub mod Firsts
-pub mod Example

@@ -14,8 +14,6 @@ mod memory;
 mod registers;
 mod slots;
 mod spell;
-#[cfg(test)]
-mod tests;
 mod words;
 
 pub use decode::decode_bundle;

@@ -6,9 +6,9 @@ use Rattle.tie_lexer.proofs.Law.{fault_one, fault_or_tokens, one_list}
 use Rattle.tie_grammar.specs.declared.tree.Tree.{Tree}
 use Rattle.tie_ast.specs.Parsing.{IsTreeOf, IsFaultOf}
 use Rattle.tie_ast.proofs.ParseLaw.{one_tree, one_fault, not_both}
-use Rattle.tie_rules.specs.RuleBook.{rules}
-use Rattle.tie_rules.specs.Least.{IsFirst}
-use Rattle.tie_rules.proofs.First.{is_one, none_first}
+use Rattle.tie_check.specs.tie_rules.RuleBook.{rules}
+use Rattle.tie_check.specs.tie_rules.Least.{IsFirst}
+use Rattle.tie_check.proofs.tie_rules_proofs.First.{is_one, none_first}
 use Rattle.tie_desc.specs.Description.{Description}
 use Rattle.tie_check.specs.Checked.{Accepted}
 use Rattle.tie_front.specs.declared.refusal.TieRule.{TieRule}

@@ -4,8 +4,8 @@ use Rattle.tie_lexer.specs.declared.Token.{Token}
 use Rattle.tie_lexer.specs.Tokens.{AreTokens, IsFault}
 use Rattle.tie_grammar.specs.declared.tree.Tree.{Tree}
 use Rattle.tie_ast.specs.Parsing.{IsTreeOf, IsFaultOf}
-use Rattle.tie_rules.specs.RuleBook.{rules}
-use Rattle.tie_rules.specs.Least.{IsFirst}
+use Rattle.tie_check.specs.tie_rules.RuleBook.{rules}
+use Rattle.tie_check.specs.tie_rules.Least.{IsFirst}
 use Rattle.tie_desc.specs.Description.{Description}
 use Rattle.tie_check.specs.Checked.{Accepted}
 use Rattle.tie_front.specs.declared.refusal.TieRule.{TieRule}

@@ -8,19 +8,18 @@ ghost use Rattle.tie_lexer.specs.declared.Token.{Token};
 ghost use Rattle.tie_lexer.specs.Tokens.{AreTokens};
 ghost use Rattle.tie_grammar.specs.declared.tree.Tree.{Tree};
 ghost use Rattle.tie_ast.specs.Parsing.{IsTreeOf};
-ghost use Rattle.tie_rules.specs.RuleBook as book;
-ghost use Rattle.tie_rules.specs.Least.{IsFirst};
+ghost use Rattle.tie_check.specs.tie_rules.RuleBook as book;
+ghost use Rattle.tie_check.specs.tie_rules.Least.{IsFirst};
 ghost use Rattle.tie_desc.specs.Description.{Description};
 ghost use Rattle.tie_check.specs.Checked.{Accepted};
 ghost use Rattle.tie_front.specs.Front.{IsDescriptionOf, IsRefused};
 
 mod refusal;
-#[cfg(test)]
-mod tests;
 
 pub use refusal::{TieRefusal, TieRule, rule_name};
 use std::alloc::Global;
 use tie_ast::{ParseRefusal, parse};
+pub use tie_check::{tie_describe, tie_rules, tie_tree_law};
 use tie_check::{CheckRefusal, check};
 use tie_desc::Desc;
 use tie_lexer::{LexRefusal, Token, lex};

@@ -8,8 +8,6 @@ mod memory;
 mod real;
 mod shelf;
 mod sink;
-#[cfg(test)]
-mod tests;
 
 pub use memory::{MemShelf, MemSink, NoMemory};
 pub use real::{FileShelf, StdSink};

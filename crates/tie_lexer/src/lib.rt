@@ -14,8 +14,6 @@ ghost use Rattle.tie_lexer.specs.Tokens.{AreTokens, IsFault, IsInText, IsSpelled
 
 mod classes;
 mod front;
-#[cfg(test)]
-mod tests;
 
 use front::{Piece, piece_at};
 use std::alloc::{AllocError, AllocFailed, Global};

@@ -3,8 +3,7 @@
 //! `specs/Lines.antt` has each text as one list of bytes.
 #![tactic(auto)]
 
-#[cfg(test)]
-mod tests;
 mod text;
 
+pub use core_text;
 pub use text::{check_text, image_text};

@@ -9,7 +9,5 @@ mod memory;
 pub mod names;
 pub mod scope;
 pub mod size;
-#[cfg(test)]
-mod tests;
 
 pub use memory::NoMemory;

@@ -5,12 +5,12 @@ use Rattle.tie_desc.specs.Description.{Description}
 use Rattle.tie_desc.specs.declared.bundle.Fetched.{Fetched}
 use Rattle.tie_desc.specs.declared.bundle.Kit.{Kit}
 use Rattle.xt_state.specs.State.{State}
-use Rattle.xt_exec.specs.declared.queues.Needs.{Needs}
-use Rattle.xt_exec.specs.Queues.{mask}
-use Rattle.xt_exec.specs.Step.{bundle_at, fetched_needs, needed}
-use Rattle.net_parts.specs.declared.parts.Net.{Net}
-use Rattle.net_parts.specs.declared.parts.NetCore.{NetCore}
-use Rattle.net_parts.specs.declared.ends.RunEnd.{RunEnd}
+use Rattle.net_ref.specs.xt_exec.declared.queues.Needs.{Needs}
+use Rattle.net_ref.specs.xt_exec.Queues.{mask}
+use Rattle.net_ref.specs.xt_exec.Step.{bundle_at, fetched_needs, needed}
+use Rattle.net_ref.specs.net_parts.declared.parts.Net.{Net}
+use Rattle.net_ref.specs.net_parts.declared.parts.NetCore.{NetCore}
+use Rattle.net_ref.specs.net_parts.declared.ends.RunEnd.{RunEnd}
 use Rattle.net_ref.specs.Processor.{chosen, fetched_pops, fetched_pushes}
 use Rattle.net_ref.specs.Workers.{capacity_of, input_queue, output_queue}
 use Rattle.tie_report.specs.declared.standing.Standing.TheVariants.{Full, Running}

@@ -3,11 +3,11 @@ use Rattle.std.proofs.Common.{◌≡◌, ℕ, ◌+◌, ◌<◌, Bool, List, ◌�
 use Rattle.std.specs.Prelude.{slice_get}
 use Rattle.std.proofs.lemmas.List.{append_assoc, drop_more}
 use Rattle.std.proofs.lemmas.Option.{slice_get_read}
-use Rattle.net_parts.specs.declared.parts.Net.{Net}
-use Rattle.net_parts.specs.declared.parts.NetCore.{NetCore}
-use Rattle.net_parts.specs.declared.ends.CoreEnd.{CoreEnd}
-use Rattle.net_parts.specs.declared.ends.RunEnd.{RunEnd}
-use Rattle.xt_exec.specs.Made.{IsFor}
+use Rattle.net_ref.specs.net_parts.declared.parts.Net.{Net}
+use Rattle.net_ref.specs.net_parts.declared.parts.NetCore.{NetCore}
+use Rattle.net_ref.specs.net_parts.declared.ends.CoreEnd.{CoreEnd}
+use Rattle.net_ref.specs.net_parts.declared.ends.RunEnd.{RunEnd}
+use Rattle.net_ref.specs.xt_exec.Made.{IsFor}
 use Rattle.net_ref.specs.Reference.{IsWhole}
 use Rattle.tie_report.specs.Report.{core_text, cores_text}
 

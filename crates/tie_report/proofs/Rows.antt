@@ -3,13 +3,13 @@ use Rattle.std.proofs.Common.{◌≡◌, ℕ, true, false, Some, None, codes, []
 use Rattle.std.specs.Fmt as printed
 use Rattle.xt_core.specs.declared.ending.Ending.TheVariants as endings
 use Rattle.xt_core.specs.declared.ending.Trap.TheVariants as traps
-use Rattle.net_parts.specs.declared.parts.Net.{Net}
-use Rattle.net_parts.specs.declared.parts.NetQueue.{NetQueue}
-use Rattle.net_parts.specs.declared.parts.FromEnd.TheVariants as from
-use Rattle.net_parts.specs.declared.parts.ToEnd.TheVariants as to
-use Rattle.net_parts.specs.declared.ends.QueueEnd.{QueueEnd}
-use Rattle.net_parts.specs.declared.ends.RunEnd.{RunEnd}
-use Rattle.net_parts.specs.declared.outcome.Outcome.TheVariants as outcomes
+use Rattle.net_ref.specs.net_parts.declared.parts.Net.{Net}
+use Rattle.net_ref.specs.net_parts.declared.parts.NetQueue.{NetQueue}
+use Rattle.net_ref.specs.net_parts.declared.parts.FromEnd.TheVariants as from
+use Rattle.net_ref.specs.net_parts.declared.parts.ToEnd.TheVariants as to
+use Rattle.net_ref.specs.net_parts.declared.ends.QueueEnd.{QueueEnd}
+use Rattle.net_ref.specs.net_parts.declared.ends.RunEnd.{RunEnd}
+use Rattle.net_ref.specs.net_parts.declared.outcome.Outcome.TheVariants as outcomes
 use Rattle.core_text.specs.Digits.{hex_digits, digit_count}
 use Rattle.tie_report.specs.declared.standing.Standing.TheVariants as standings
 use Rattle.tie_report.specs.Standing.{is_empty, is_full, standing_by, waiting}

@@ -4,18 +4,18 @@ use Rattle.std.specs.Global.{Global}
 use Rattle.std.specs.Fmt.{decimal}
 use Rattle.xt_core.specs.declared.ending.Trap.{Trap}
 use Rattle.xt_core.specs.declared.ending.Trap.TheVariants as traps
-use Rattle.net_parts.specs.declared.parts.Net.{Net}
-use Rattle.net_parts.specs.declared.parts.NetCore.{NetCore}
-use Rattle.net_parts.specs.declared.parts.NetCollector.{NetCollector}
-use Rattle.net_parts.specs.declared.parts.NetQueue.{NetQueue}
-use Rattle.net_parts.specs.declared.parts.FromEnd.{FromEnd}
-use Rattle.net_parts.specs.declared.parts.FromEnd.TheVariants as from
-use Rattle.net_parts.specs.declared.ends.CoreEnd.{CoreEnd}
-use Rattle.net_parts.specs.declared.ends.QueueEnd.{QueueEnd}
-use Rattle.net_parts.specs.declared.ends.RunEnd.{RunEnd}
-use Rattle.net_parts.specs.declared.outcome.Outcome.{Outcome}
-use Rattle.net_parts.specs.declared.outcome.Outcome.TheVariants as outcomes
-use Rattle.net_parts.specs.Ends.{output_bits}
+use Rattle.net_ref.specs.net_parts.declared.parts.Net.{Net}
+use Rattle.net_ref.specs.net_parts.declared.parts.NetCore.{NetCore}
+use Rattle.net_ref.specs.net_parts.declared.parts.NetCollector.{NetCollector}
+use Rattle.net_ref.specs.net_parts.declared.parts.NetQueue.{NetQueue}
+use Rattle.net_ref.specs.net_parts.declared.parts.FromEnd.{FromEnd}
+use Rattle.net_ref.specs.net_parts.declared.parts.FromEnd.TheVariants as from
+use Rattle.net_ref.specs.net_parts.declared.ends.CoreEnd.{CoreEnd}
+use Rattle.net_ref.specs.net_parts.declared.ends.QueueEnd.{QueueEnd}
+use Rattle.net_ref.specs.net_parts.declared.ends.RunEnd.{RunEnd}
+use Rattle.net_ref.specs.net_parts.declared.outcome.Outcome.{Outcome}
+use Rattle.net_ref.specs.net_parts.declared.outcome.Outcome.TheVariants as outcomes
+use Rattle.net_ref.specs.net_parts.Ends.{output_bits}
 use Rattle.net_ref.specs.Workers.{collector_queue}
 use Rattle.core_text.specs.Digits.{hex_digits, digit_count}
 use Rattle.core_text.specs.Core.{core_lines}

@@ -4,13 +4,13 @@ use Rattle.std.specs.List.{list_all, list_any, zip}
 use Rattle.xt_core.specs.declared.ending.Ending.{Ending}
 use Rattle.xt_core.specs.declared.ending.Ending.TheVariants as endings
 use Rattle.xt_state.specs.State.{State}
-use Rattle.net_parts.specs.declared.parts.Net.{Net}
-use Rattle.net_parts.specs.declared.parts.NetCore.{NetCore}
-use Rattle.net_parts.specs.declared.ends.CoreEnd.{CoreEnd}
-use Rattle.net_parts.specs.declared.ends.QueueEnd.{QueueEnd}
-use Rattle.net_parts.specs.declared.ends.RunEnd.{RunEnd}
-use Rattle.net_parts.specs.declared.outcome.Outcome.{Outcome}
-use Rattle.net_parts.specs.declared.outcome.Outcome.TheVariants as outcomes
+use Rattle.net_ref.specs.net_parts.declared.parts.Net.{Net}
+use Rattle.net_ref.specs.net_parts.declared.parts.NetCore.{NetCore}
+use Rattle.net_ref.specs.net_parts.declared.ends.CoreEnd.{CoreEnd}
+use Rattle.net_ref.specs.net_parts.declared.ends.QueueEnd.{QueueEnd}
+use Rattle.net_ref.specs.net_parts.declared.ends.RunEnd.{RunEnd}
+use Rattle.net_ref.specs.net_parts.declared.outcome.Outcome.{Outcome}
+use Rattle.net_ref.specs.net_parts.declared.outcome.Outcome.TheVariants as outcomes
 use Rattle.net_ref.specs.Processor.{is_running, next_pops, next_pushes}
 use Rattle.net_ref.specs.Workers.{input_queue, output_queue, capacity_of}
 use Rattle.tie_report.specs.declared.standing.Standing.{Standing}

@@ -3,14 +3,14 @@
 ghost use Rattle.std.specs.Prelude.{◌≡◌, ◌++◌, ◌≤◌, ℕ, OnOk, Some, codes, drop, length, slice_get, string_bytes};
 ghost use Rattle.std.specs.Fmt.{decimal};
 ghost use Rattle.core_text.specs.Digits.{digit_count, hex_digits};
-ghost use Rattle.net_parts.specs.Ends.{output_bits};
+ghost use Rattle.net_ref.specs.net_parts.Ends.{output_bits};
 ghost use Rattle.net_ref.specs.Workers.{collector_queue};
 ghost use Rattle.net_ref.specs.Reference.{IsWhole};
 ghost use Rattle.tie_report.specs.Report.{collector_bits, collector_text, collectors_text, from_bits, queue_bits, value_lines};
 
 use core_text::{digit_count, push_hex};
 use net_parts::{FromEnd, Net, NetCollector, NetCore, RunEnd};
-use net_ref::collector_queue;
+use net_ref::{collector_queue, net_parts};
 use std::alloc::AllocError;
 
 /// How many bits an output queue of a processor has.

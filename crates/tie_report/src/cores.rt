@@ -1,7 +1,7 @@
 //! The lines of the processors.
 
 ghost use Rattle.std.specs.Prelude.{◌≡◌, ◌++◌, ◌^◌, ◌<◌, OnOk, drop, length, string_bytes, take};
-ghost use Rattle.xt_exec.specs.Made.{IsFor};
+ghost use Rattle.net_ref.specs.xt_exec.Made.{IsFor};
 ghost use Rattle.net_ref.specs.Reference.{IsWhole};
 ghost use Rattle.tie_report.specs.Report.{core_text, cores_text, dump_lines};
 
@@ -9,6 +9,7 @@ use crate::waiting::standing_of;
 use crate::words::words_of;
 use core_text::{push_core, push_memory};
 use net_parts::{CoreEnd, Net, NetCore, RunEnd};
+use net_ref::net_parts;
 use std::alloc::{AllocError, Global};
 
 /// At most so many bytes from a place on.

@@ -9,13 +9,12 @@ mod cores;
 mod outcome;
 mod queues;
 mod standing;
-#[cfg(test)]
-mod tests;
 mod waiting;
 mod whole;
 mod words;
 
-pub use net_ref::NoMemory;
+pub use net_ref;
+pub use net_ref::{NoMemory, net_parts, xt_exec};
 pub use outcome::word;
 pub use standing::Standing;
 pub use whole::report;

@@ -2,12 +2,13 @@
 
 ghost use Rattle.std.specs.Prelude.{◌≡◌};
 ghost use Rattle.std.specs.List.{list_all, list_any, zip};
-ghost use Rattle.net_parts.specs.declared.ends.CoreEnd.{CoreEnd};
-ghost use Rattle.net_parts.specs.declared.parts.NetCore.{NetCore};
+ghost use Rattle.net_ref.specs.net_parts.declared.ends.CoreEnd.{CoreEnd};
+ghost use Rattle.net_ref.specs.net_parts.declared.parts.NetCore.{NetCore};
 ghost use Rattle.net_ref.specs.Reference.{IsWhole};
 ghost use Rattle.tie_report.specs.Standing.{is_halted, is_spent, is_trapped, word};
 
 use net_parts::{CoreEnd, Net, NetCore, Outcome, RunEnd};
+use net_ref::net_parts;
 use xt_core::Ending;
 
 fn is_halted(ending: Ending) -> bool

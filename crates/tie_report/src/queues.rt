@@ -4,6 +4,7 @@ ghost use Rattle.std.specs.Prelude.{◌≡◌, ◌++◌, OnOk, codes, drop, if�
 ghost use Rattle.tie_report.specs.Report.{counts_words, queue_line, queue_lines, stepped_words};
 
 use net_parts::{FromEnd, NetQueue, QueueEnd};
+use net_ref::net_parts;
 use std::alloc::AllocError;
 
 /// Appends the counts of a queue at the end of a run: of one that a source writes the items consumed alone.

@@ -1,15 +1,15 @@
 //! Where a processor waits.
 
 ghost use Rattle.std.specs.Prelude.{◌≡◌, ◌≤◌, ℕ, Bool, find, length, map, slice_get, if◌then◌else◌, [], ◌∷◌, ◌<◌};
-ghost use Rattle.xt_exec.specs.Made.{IsFor};
-ghost use Rattle.xt_exec.specs.Queues.{mask};
+ghost use Rattle.net_ref.specs.xt_exec.Made.{IsFor};
+ghost use Rattle.net_ref.specs.xt_exec.Queues.{mask};
 ghost use Rattle.net_ref.specs.Processor.{chosen};
 ghost use Rattle.net_ref.specs.Workers.{capacity_of, input_queue, output_queue};
 ghost use Rattle.tie_report.specs.Standing.{first_empty, first_full, is_empty, is_full, standing, waiting};
 
 use crate::standing::Standing;
 use net_parts::{CoreEnd, Net, NetCore, NetQueue, QueueEnd, RunEnd};
-use net_ref::{has_bit, input_queue, output_queue};
+use net_ref::{has_bit, input_queue, net_parts, output_queue, xt_exec};
 use tie_desc::Desc;
 use xt_core::Ending;
 use xt_exec::needs;

@@ -9,7 +9,7 @@ use crate::cores::push_cores;
 use crate::outcome::word;
 use crate::queues::push_queues;
 use net_parts::{Net, Outcome, RunEnd};
-use net_ref::NoMemory;
+use net_ref::{NoMemory, net_parts};
 use std::alloc::{AllocError, Global};
 
 fn outcome_word(outcome: Outcome) -> &'static str

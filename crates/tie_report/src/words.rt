@@ -5,6 +5,7 @@ ghost use Rattle.tie_report.specs.Report.{blocked_words, empty_words, full_words
 
 use crate::standing::Standing;
 use net_parts::{Net, NetQueue, QueueEnd, RunEnd};
+use net_ref::net_parts;
 use std::alloc::{AllocError, Global};
 use xt_core::Trap;
 

@@ -28,8 +28,6 @@ mod scheduled;
 mod schedules;
 mod sizes;
 mod slots;
-#[cfg(test)]
-mod tests;
 mod unknown;
 mod widths;
 

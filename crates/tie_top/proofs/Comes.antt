@@ -2,21 +2,21 @@
 use Rattle.std.proofs.Common.{◌≡◌, ◌≢◌, ◌⊎◌, ℕ, Bool, true, false, List, [], ◌∷◌, Ok, Err, refl, sym, ap, subst, inl, inr, ◌∙◌}
 use Rattle.tie_io.specs.Counts.{Rose}
 use Rattle.hex_text.specs.declared.hexadecimal.HexRule.{HexRule}
-use Rattle.tie_front.specs.declared.refusal.TieRule.{TieRule}
+use Rattle.asm_law.specs.tie_front.declared.refusal.TieRule.{TieRule}
 use Rattle.asm_lines.specs.declared.refusal.AsmRule.{AsmRule}
-use Rattle.net_toml.specs.declared.refusal.NetRule.{NetRule}
-use Rattle.net_parts.specs.declared.parts.Net.{Net}
-use Rattle.net_parts.specs.declared.ends.RunEnd.{RunEnd}
-use Rattle.net_parts.specs.declared.outcome.Outcome.{Outcome}
-use Rattle.net_parts.specs.declared.outcome.Outcome.TheVariants as outcomes
-use Rattle.net_ref.specs.Reference.{IsReference, IsStrict}
+use Rattle.load_law.specs.net_toml.declared.refusal.NetRule.{NetRule}
+use Rattle.tie_report.specs.net_parts.declared.parts.Net.{Net}
+use Rattle.tie_report.specs.net_parts.declared.ends.RunEnd.{RunEnd}
+use Rattle.tie_report.specs.net_parts.declared.outcome.Outcome.{Outcome}
+use Rattle.tie_report.specs.net_parts.declared.outcome.Outcome.TheVariants as outcomes
+use Rattle.tie_report.specs.net_ref.Reference.{IsReference, IsStrict}
 use Rattle.tie_report.specs.Standing.{word}
 use Rattle.load_law.specs.Kinds.{IsNetKind}
 use Rattle.load_law.proofs.Laws.{rose_net, kind_net}
 use Rattle.tie_words.specs.Words.{Meant, Check, Asm, Dis, Exec, ExecTie, Ref, Strict, Accepts, WrongAt}
-use Rattle.tie_files.specs.declared.refusal.Refusal.{Refusal}
-use Rattle.tie_files.specs.declared.refusal.Refusal.TheVariants.{Usage, ReadFault, TooLong, TieRefused, AsmRefused, HexRefused, NetRefused, NoMemory}
-use Rattle.tie_files.specs.Files.{Shelved, IsWrong, ReadFails, IsTooLong, TextIsWrong}
+use Rattle.load_law.specs.tie_files.declared.refusal.Refusal.{Refusal}
+use Rattle.load_law.specs.tie_files.declared.refusal.Refusal.TheVariants.{Usage, ReadFault, TooLong, TieRefused, AsmRefused, HexRefused, NetRefused, NoMemory}
+use Rattle.load_law.specs.tie_files.Files.{Shelved, IsWrong, ReadFails, IsTooLong, TextIsWrong}
 use Rattle.tie_top.specs.declared.status.Status.{Status}
 use Rattle.tie_top.specs.declared.status.Status.TheVariants as statuses
 use Rattle.tie_top.specs.declared.report.Report.{Report}

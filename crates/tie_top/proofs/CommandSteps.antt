@@ -2,24 +2,24 @@
 use Rattle.std.proofs.Common.{◌≡◌, ◌⊎◌, ℕ, List, Ok, Err, refl, ap, inl, inr}
 use Rattle.tie_desc.specs.Description.{Description}
 use Rattle.tie_words.specs.Words.{Meant, Check, Asm, Dis, Exec, ExecTie, Ref, Strict, Accepts, WrongAt}
-use Rattle.tie_files.specs.declared.refusal.Refusal.{Refusal}
-use Rattle.tie_files.specs.declared.refusal.Refusal.TheVariants.{Usage, NoMemory}
+use Rattle.load_law.specs.tie_files.declared.refusal.Refusal.{Refusal}
+use Rattle.load_law.specs.tie_files.declared.refusal.Refusal.TheVariants.{Usage, NoMemory}
 use Rattle.xt_dis.specs.Listing.{Lists}
 use Rattle.tie_lines.specs.Lines.{image_text}
 use Rattle.tie_top.specs.declared.report.Report.{Report}
-use Rattle.net_parts.specs.declared.parts.Net.{Net}
-use Rattle.net_parts.specs.declared.ends.RunEnd.{RunEnd}
-use Rattle.net_ref.specs.Reference.{IsReference, IsStrict}
-use Rattle.net_load.specs.Loaded.{IsNetOf, bare}
-use Rattle.net_load.specs.Steps.{IsRefusedNet}
-use Rattle.tie_files.specs.Files.{Shelved, IsTie, IsHex, IsSource, RefusesTie, RefusesHex, RefusesSource, IsWrong}
+use Rattle.tie_report.specs.net_parts.declared.parts.Net.{Net}
+use Rattle.tie_report.specs.net_parts.declared.ends.RunEnd.{RunEnd}
+use Rattle.tie_report.specs.net_ref.Reference.{IsReference, IsStrict}
+use Rattle.load_law.specs.net_load.Loaded.{IsNetOf, bare}
+use Rattle.load_law.specs.net_load.Steps.{IsRefusedNet}
+use Rattle.load_law.specs.tie_files.Files.{Shelved, IsTie, IsHex, IsSource, RefusesTie, RefusesHex, RefusesSource, IsWrong}
 use Rattle.tie_top.specs.Files.{RefusesBy}
 use Rattle.tie_desc.specs.Fetching.{IsImage}
-use Rattle.net_desc.specs.Workers.{Loaded}
-use Rattle.net_desc.specs.Alone.{IsAlone}
+use Rattle.load_law.specs.net_desc.Workers.{Loaded}
+use Rattle.load_law.specs.net_desc.Alone.{IsAlone}
 use Rattle.tie_top.specs.Meaning.{Verdict, Reports, ReportsAt, reported, done, CommandMeans, Means, UnlessMemory}
-use Rattle.tie_files.specs.Parts.{Judges}
-use Rattle.tie_files.proofs.Steps.{Within, wrong_within, tie_within, hex_within, source_within, wrong_as}
+use Rattle.load_law.specs.tie_files.Parts.{Judges}
+use Rattle.load_law.proofs.tie_files_proofs.Steps.{Within, wrong_within, tie_within, hex_within, source_within, wrong_as}
 
 -- the verdict of a command is that of its words
 pub accepted : (s : Shelved) (words : List (List ℕ)) (command : Meant) (v : Verdict)

@@ -6,24 +6,24 @@ use Rattle.tie_io.specs.Writing.{Grew, GrewWithin}
 use Rattle.hex_text.specs.declared.hexadecimal.HexRule.{HexRule}
 use Rattle.hex_text.specs.Hexadecimal.{hex_bytes}
 use Rattle.tie_desc.specs.Description.{Description}
-use Rattle.tie_front.specs.declared.refusal.TieRule.{TieRule}
-use Rattle.tie_front.specs.Front.{IsDescriptionOf}
+use Rattle.asm_law.specs.tie_front.declared.refusal.TieRule.{TieRule}
+use Rattle.asm_law.specs.tie_front.Front.{IsDescriptionOf}
 use Rattle.asm_lines.specs.declared.refusal.AsmRule.{AsmRule}
 use Rattle.asm_lines.specs.Tokens.{Fault}
-use Rattle.xt_asm.specs.Assembly.{assembly}
+use Rattle.asm_law.specs.xt_asm.Assembly.{assembly}
 use Rattle.asm_law.proofs.SameDescription.{one_image}
-use Rattle.tie_front.proofs.Laws.{one_refusal, not_refused}
+use Rattle.asm_law.proofs.tie_front_proofs.Laws.{one_refusal, not_refused}
 use Rattle.load_law.proofs.Laws.{loaded_refused, one_refused, steady_net}
 use Rattle.tie_words.specs.Words.{Meant, Check, Asm, Dis, Exec, ExecTie, Ref, Strict, Accepts, WrongAt}
 use Rattle.tie_words.proofs.WordLemmas.{one_command, one_place}
 use Rattle.tie_top.specs.declared.status.Status.{Status}
 use Rattle.tie_top.specs.declared.status.Status.TheVariants as statuses
-use Rattle.tie_files.specs.declared.refusal.Refusal.{Refusal}
-use Rattle.tie_files.specs.declared.refusal.Refusal.TheVariants.{Usage, ReadFault, TooLong, TieRefused, AsmRefused, HexRefused, NetRefused, NoMemory}
+use Rattle.load_law.specs.tie_files.declared.refusal.Refusal.{Refusal}
+use Rattle.load_law.specs.tie_files.declared.refusal.Refusal.TheVariants.{Usage, ReadFault, TooLong, TieRefused, AsmRefused, HexRefused, NetRefused, NoMemory}
 use Rattle.tie_top.specs.declared.report.Report.{Report}
-use Rattle.net_toml.specs.declared.refusal.NetRule.{NetRule}
-use Rattle.net_load.specs.Told.{IsTold, IsSteady, IsToldNet}
-use Rattle.tie_files.specs.Files.{Shelved, IsTextOf, IsTie, IsWrong, ReadFails, IsTooLong, TextIsWrong, RefusesTie, RefusesHex}
+use Rattle.load_law.specs.net_toml.declared.refusal.NetRule.{NetRule}
+use Rattle.load_law.specs.net_load.Told.{IsTold, IsSteady, IsToldNet}
+use Rattle.load_law.specs.tie_files.Files.{Shelved, IsTextOf, IsTie, IsWrong, ReadFails, IsTooLong, TextIsWrong, RefusesTie, RefusesHex}
 use Rattle.tie_top.specs.Files.{File, Tie, Hex, Source, Network, files, IsAccepted, RefusesBy, IsWrongFile, FirstWrong}
 use Rattle.tie_top.specs.Meaning.{Yields}
 use Rattle.tie_top.specs.Delivery.{Sunk, Delivered, Reported, Wanted}

@@ -3,18 +3,18 @@ use Rattle.std.specs.Prelude.{◌≡◌, ◌⊎◌, ℕ, List, [], ◌∷◌, ma
 use Rattle.std.specs.declared.string.String.{String}
 use Rattle.tie_io.specs.Counts.{Rose}
 use Rattle.hex_text.specs.declared.hexadecimal.HexRule.{HexRule}
-use Rattle.tie_front.specs.declared.refusal.TieRule.{TieRule}
+use Rattle.asm_law.specs.tie_front.declared.refusal.TieRule.{TieRule}
 use Rattle.asm_lines.specs.declared.refusal.AsmRule.{AsmRule}
 use Rattle.tie_words.specs.Words.{Meant, Accepts, WrongAt}
 use Rattle.tie_top.specs.declared.status.Status.{Status}
 use Rattle.tie_top.specs.declared.status.Status.TheVariants as statuses
-use Rattle.tie_files.specs.declared.refusal.Refusal.{Refusal}
-use Rattle.tie_files.specs.declared.refusal.Refusal.TheVariants.{Usage, ReadFault, TooLong, TieRefused, AsmRefused, HexRefused, NetRefused}
+use Rattle.load_law.specs.tie_files.declared.refusal.Refusal.{Refusal}
+use Rattle.load_law.specs.tie_files.declared.refusal.Refusal.TheVariants.{Usage, ReadFault, TooLong, TieRefused, AsmRefused, HexRefused, NetRefused}
 use Rattle.tie_top.specs.declared.report.Report.{Report}
 use Rattle.tie_top.specs.Printing.{line_of}
-use Rattle.net_toml.specs.declared.refusal.NetRule.{NetRule}
-use Rattle.tie_files.specs.Files.{Shelved, shelved}
-use Rattle.net_load.specs.Told.{IsTold, IsSteady, IsToldNet, IsSteadyNet}
+use Rattle.load_law.specs.net_toml.declared.refusal.NetRule.{NetRule}
+use Rattle.load_law.specs.tie_files.Files.{Shelved, shelved}
+use Rattle.load_law.specs.net_load.Told.{IsTold, IsSteady, IsToldNet, IsSteadyNet}
 use Rattle.tie_top.specs.Files.{File, Tie, Hex, Source, Network, files, IsAccepted, FirstWrong}
 use Rattle.tie_top.specs.Meaning.{Verdict, Yields, Means, UnlessMemory}
 use Rattle.tie_top.specs.Delivery.{Sunk, sunk, Delivered, Whole, Faulted}

@@ -4,8 +4,8 @@ use Rattle.tie_io.specs.Counts.{Rose}
 use Rattle.tie_io.specs.Writing.{Grew, GrewWithin}
 use Rattle.tie_top.specs.declared.status.Status.{Status}
 use Rattle.tie_top.specs.declared.status.Status.TheVariants.{WriteFault, NoMemory}
-use Rattle.tie_files.specs.declared.refusal.Refusal.{Refusal}
-use Rattle.tie_files.specs.declared.refusal.Refusal.TheVariants as refusals
+use Rattle.load_law.specs.tie_files.declared.refusal.Refusal.{Refusal}
+use Rattle.load_law.specs.tie_files.declared.refusal.Refusal.TheVariants as refusals
 use Rattle.tie_top.specs.declared.report.Report.{Report}
 use Rattle.tie_top.specs.Meaning.{Verdict}
 use Rattle.tie_top.specs.Printing.{line_of, status_of}

@@ -1,12 +1,12 @@
 -- The files of a command: in which order they are read, what each one must be, and the first one that is wrong.
 use Rattle.std.specs.Prelude.{◌⊎◌, ℕ, List, [], ◌∷◌}
 use Rattle.tie_desc.specs.Description.{Description}
-use Rattle.net_parts.specs.declared.parts.Net.{Net}
+use Rattle.tie_report.specs.net_parts.declared.parts.Net.{Net}
 use Rattle.tie_words.specs.Words.{Meant, Check, Asm, Dis, Exec, ExecTie, Ref, Strict}
-use Rattle.tie_files.specs.declared.refusal.Refusal.{Refusal}
-use Rattle.tie_files.specs.Files.{Shelved, IsTie, IsHex, IsSource, IsWrong, RefusesTie, RefusesHex, RefusesSource}
-use Rattle.net_load.specs.Loaded.{IsNetOf}
-use Rattle.net_load.specs.Steps.{IsRefusedNet}
+use Rattle.load_law.specs.tie_files.declared.refusal.Refusal.{Refusal}
+use Rattle.load_law.specs.tie_files.Files.{Shelved, IsTie, IsHex, IsSource, IsWrong, RefusesTie, RefusesHex, RefusesSource}
+use Rattle.load_law.specs.net_load.Loaded.{IsNetOf}
+use Rattle.load_law.specs.net_load.Steps.{IsRefusedNet}
 
 -- a file, and what it must be: a TIE text, an image, a source for the TIE text of a name, or a network with the files that it names
 pub data File : Type 0 where

@@ -2,20 +2,20 @@
 use Rattle.std.specs.Prelude.{◌≡◌, ◌⊎◌, ℕ, false, List, Result, Ok, Err}
 use Rattle.tie_desc.specs.Description.{Description}
 use Rattle.tie_desc.specs.Fetching.{IsImage}
-use Rattle.net_parts.specs.declared.parts.Net.{Net}
-use Rattle.net_parts.specs.declared.ends.RunEnd.{RunEnd}
-use Rattle.net_desc.specs.Workers.{Loaded}
-use Rattle.net_desc.specs.Alone.{IsAlone}
-use Rattle.net_ref.specs.Reference.{IsReference, IsStrict}
-use Rattle.net_load.specs.Loaded.{IsNetOf, bare}
+use Rattle.tie_report.specs.net_parts.declared.parts.Net.{Net}
+use Rattle.tie_report.specs.net_parts.declared.ends.RunEnd.{RunEnd}
+use Rattle.load_law.specs.net_desc.Workers.{Loaded}
+use Rattle.load_law.specs.net_desc.Alone.{IsAlone}
+use Rattle.tie_report.specs.net_ref.Reference.{IsReference, IsStrict}
+use Rattle.load_law.specs.net_load.Loaded.{IsNetOf, bare}
 use Rattle.xt_dis.specs.Listing.{Lists}
 use Rattle.tie_report.specs.Standing.{word}
 use Rattle.tie_report.specs.Report.{report_text}
 use Rattle.tie_lines.specs.Lines.{check_text, image_text}
 use Rattle.tie_words.specs.Words.{Meant, Check, Asm, Dis, Exec, ExecTie, Ref, Strict, Accepts, WrongAt}
-use Rattle.tie_files.specs.declared.refusal.Refusal.{Refusal}
-use Rattle.tie_files.specs.declared.refusal.Refusal.TheVariants.{Usage, NoMemory}
-use Rattle.tie_files.specs.Files.{Shelved, IsTie, IsHex, IsSource}
+use Rattle.load_law.specs.tie_files.declared.refusal.Refusal.{Refusal}
+use Rattle.load_law.specs.tie_files.declared.refusal.Refusal.TheVariants.{Usage, NoMemory}
+use Rattle.load_law.specs.tie_files.Files.{Shelved, IsTie, IsHex, IsSource}
 use Rattle.tie_top.specs.declared.status.Status.TheVariants.{Done}
 use Rattle.tie_top.specs.declared.report.Report.{Report}
 use Rattle.tie_top.specs.Printing.{outcome_status}

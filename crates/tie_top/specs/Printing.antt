@@ -1,19 +1,19 @@
 -- What is written: the line of each refusal, and the statuses.
 use Rattle.std.specs.Prelude.{ℕ, List, ◌++◌, codes}
 use Rattle.std.specs.Fmt.{decimal}
-use Rattle.net_parts.specs.declared.outcome.Outcome.{Outcome}
-use Rattle.net_parts.specs.declared.outcome.Outcome.TheVariants as outcomes
-use Rattle.net_toml.specs.declared.refusal.NetRule.{NetRule}
-use Rattle.net_toml.specs.declared.refusal.NetRule.TheVariants as net
+use Rattle.tie_report.specs.net_parts.declared.outcome.Outcome.{Outcome}
+use Rattle.tie_report.specs.net_parts.declared.outcome.Outcome.TheVariants as outcomes
+use Rattle.load_law.specs.net_toml.declared.refusal.NetRule.{NetRule}
+use Rattle.load_law.specs.net_toml.declared.refusal.NetRule.TheVariants as net
 use Rattle.hex_text.specs.declared.hexadecimal.HexRule.{HexRule}
 use Rattle.hex_text.specs.declared.hexadecimal.HexRule.TheVariants.{BadHex, OddHex, LongHex}
-use Rattle.tie_front.specs.RuleNames.{rule_name}
+use Rattle.asm_law.specs.tie_front.RuleNames.{rule_name}
 use Rattle.asm_lines.specs.declared.refusal.AsmRule.{AsmRule}
 use Rattle.asm_lines.specs.declared.refusal.AsmRule.TheVariants as asm
 use Rattle.tie_top.specs.declared.status.Status.{Status}
 use Rattle.tie_top.specs.declared.status.Status.TheVariants as statuses
-use Rattle.tie_files.specs.declared.refusal.Refusal.{Refusal}
-use Rattle.tie_files.specs.declared.refusal.Refusal.TheVariants.{Usage, ReadFault, TooLong, TieRefused, AsmRefused, HexRefused, NetRefused, NoMemory}
+use Rattle.load_law.specs.tie_files.declared.refusal.Refusal.{Refusal}
+use Rattle.load_law.specs.tie_files.declared.refusal.Refusal.TheVariants.{Usage, ReadFault, TooLong, TieRefused, AsmRefused, HexRefused, NetRefused, NoMemory}
 
 -- the status of the report of a network whose run ended so
 abbrev pub outcome_status : Outcome → Status

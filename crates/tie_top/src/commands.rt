@@ -2,11 +2,12 @@
 
 ghost use Rattle.std.specs.Prelude.{◌≡◌};
 ghost use Rattle.tie_words.specs.Words as meant;
-ghost use Rattle.tie_files.specs.Files.{shelved};
+ghost use Rattle.load_law.specs.tie_files.Files.{shelved};
 ghost use Rattle.tie_top.specs.Meaning.{UnlessMemory, CommandMeans, done};
 
 use crate::Status;
 use crate::report::Report;
+use load_law::tie_files;
 use std::alloc::Global;
 use tie_desc::Sequence;
 use tie_files::{Refusal, read_tie_file};

@@ -8,6 +8,7 @@ use crate::Status;
 use crate::lines::line_of;
 use crate::report::Report;
 use crate::status::status_of;
+use load_law::tie_files;
 use std::alloc::Global;
 use tie_files::Refusal;
 use tie_io::{PutFault, Sink};

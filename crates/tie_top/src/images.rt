@@ -4,12 +4,13 @@ ghost use Rattle.std.specs.Prelude.{◌≡◌, ◌≤◌, ℕ, List, length};
 ghost use Rattle.tie_lines.specs.Lines.{image_text};
 ghost use Rattle.tie_words.specs.Words as meant;
 ghost use Rattle.xt_dis.specs.Listing.{Lists};
-ghost use Rattle.tie_files.specs.Files.{shelved};
+ghost use Rattle.load_law.specs.tie_files.Files.{shelved};
 ghost use Rattle.tie_top.specs.Meaning.{UnlessMemory, CommandMeans, done};
-ghost use Rattle.tie_files.specs.Parts.{Judges};
+ghost use Rattle.load_law.specs.tie_files.Parts.{Judges};
 
 use crate::commands::done;
 use crate::report::Report;
+use load_law::tie_files;
 use std::alloc::Global;
 use tie_desc::Desc;
 use tie_files::{Refusal, read_hex_file, read_source_file, read_tie_file};

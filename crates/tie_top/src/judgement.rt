@@ -1,5 +1,5 @@
 ghost use Rattle.std.specs.Prelude.{map, string_bytes};
-ghost use Rattle.tie_files.specs.Files.{shelved};
+ghost use Rattle.load_law.specs.tie_files.Files.{shelved};
 ghost use Rattle.tie_top.specs.Meaning.{UnlessMemory, CommandMeans, Means};
 ghost use Rattle.tie_words.specs.Reading.{seen};
 
@@ -7,6 +7,7 @@ use crate::commands::check;
 use crate::images::{asm, dis};
 use crate::networks::{exec, exec_tie, reference, strict};
 use crate::report::Report;
+use load_law::tie_files;
 use std::alloc::Global;
 use tie_files::Refusal;
 use tie_io::Shelf;

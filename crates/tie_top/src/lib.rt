@@ -16,7 +16,7 @@ mod status;
 mod top;
 
 pub use gate::{Gate, NoGate};
-pub use net_load::load_net;
+pub use load_law::net_load::load_net;
+pub use load_law::tie_files::Refusal;
 pub use status::Status;
-pub use tie_files::Refusal;
 pub use top::tie_top;

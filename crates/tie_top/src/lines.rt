@@ -1,8 +1,10 @@
 ghost use Rattle.std.specs.Prelude.{◌≡◌, ◌<◌, IfOk, length, string_bytes};
 ghost use Rattle.tie_top.specs.Printing.{line_of, hex_rule_word, asm_rule_word, net_rule_word};
 
+use asm_law::tie_front;
 use asm_lines::AsmRule;
 use hex_text::HexRule;
+use load_law::{net_toml, tie_files};
 use net_toml::NetRule;
 use std::alloc::{AllocError, Global};
 use tie_files::Refusal;

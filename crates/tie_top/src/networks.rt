@@ -1,16 +1,17 @@
 //! Networks, run on one thread to their report.
 
 ghost use Rattle.std.specs.Prelude.{◌≡◌, ◌≤◌, length};
-ghost use Rattle.net_parts.specs.Network.{IsNet};
-ghost use Rattle.net_ref.specs.Reference.{IsReference, IsStrict, IsWhole};
+ghost use Rattle.tie_report.specs.net_parts.Network.{IsNet};
+ghost use Rattle.tie_report.specs.net_ref.Reference.{IsReference, IsStrict, IsWhole};
 ghost use Rattle.tie_words.specs.Words as meant;
-ghost use Rattle.tie_files.specs.Files.{shelved};
-ghost use Rattle.tie_files.specs.Parts.{Judges};
+ghost use Rattle.load_law.specs.tie_files.Files.{shelved};
+ghost use Rattle.load_law.specs.tie_files.Parts.{Judges};
 ghost use Rattle.tie_top.specs.Meaning.{UnlessMemory, CommandMeans, Reports, ReportsAt, reported};
 ghost use Rattle.tie_top.specs.Printing.{outcome_status};
 
 use crate::Status;
 use crate::report::Report;
+use load_law::{net_desc, net_load, tie_files};
 use net_desc::alone;
 use net_load::load_net;
 use net_parts::{Net, Outcome, RunEnd};
@@ -20,7 +21,7 @@ use tie_desc::{Desc, Kit, Sequence};
 use tie_files::{Refusal, read_hex_file, read_tie_file};
 use tie_flix::image;
 use tie_io::Shelf;
-use tie_report::{report, word};
+use tie_report::{net_parts, net_ref, report, word};
 
 /// Runs an image on a processor that stands alone.
 pub fn exec<S: Shelf>(alloc: Global, hex: &str, shelf: &mut S) -> Result<Report, Refusal>

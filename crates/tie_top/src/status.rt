@@ -1,6 +1,7 @@
 ghost use Rattle.std.specs.Prelude.{◌≡◌};
 ghost use Rattle.tie_top.specs.Printing.{status_of};
 
+use load_law::tie_files;
 use tie_files::Refusal;
 
 /// How a call ended.

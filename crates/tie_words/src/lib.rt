@@ -4,7 +4,5 @@
 #![tactic(auto)]
 
 mod command;
-#[cfg(test)]
-mod tests;
 
 pub use command::{Command, command_of};

@@ -6,9 +6,8 @@
 mod assembly;
 mod bundles;
 mod statements;
-#[cfg(test)]
-mod tests;
 mod values;
 
 pub use asm_lines::{AsmRefusal, AsmRule};
+pub use asm_rules;
 pub use assembly::assemble;

@@ -6,8 +6,6 @@ mod ending;
 mod families;
 mod numbers;
 mod registers;
-#[cfg(test)]
-mod tests;
 
 pub use action::{Access, Action};
 pub use ending::{Ending, Trap};

@@ -3,4 +3,3 @@ pub mod Steps
 pub mod Filled
 pub mod Fitting
 pub mod OneListing
-pub mod Example

@@ -7,8 +7,6 @@ mod instructions;
 mod laws;
 mod listing;
 mod operations;
-#[cfg(test)]
-mod tests;
 mod text;
 
 pub use laws::one_listing;

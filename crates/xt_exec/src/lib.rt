@@ -14,8 +14,6 @@ mod reach;
 mod running;
 mod starting;
 mod stepping;
-#[cfg(test)]
-mod tests;
 
 pub use answer::Step;
 pub use laws::{one_step, one_stop};
@@ -23,4 +21,5 @@ pub use queues::Needs;
 pub use running::run;
 pub use starting::start;
 pub use stepping::{needs, step};
+pub use xt_operate;
 pub use xt_state::{Arch, Ending, NoMemory, Trap};

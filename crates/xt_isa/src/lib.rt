@@ -20,6 +20,3 @@ pub use families::{Family, family_of};
 pub use instruction::Inst;
 pub use laws::{one_spelling, one_word};
 pub use operands::fits;
-
-#[cfg(test)]
-mod tests;

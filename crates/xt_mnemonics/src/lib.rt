@@ -11,8 +11,6 @@ mod names;
 mod numbers;
 mod operands;
 mod shape;
-#[cfg(test)]
-mod tests;
 
 pub use laws::{named_again, rebuilt, words_fit};
 pub use mnemonic::Mnemonic;

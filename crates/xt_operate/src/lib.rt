@@ -7,8 +7,6 @@
 mod bounds;
 mod instructions;
 mod parts;
-#[cfg(test)]
-mod tests;
 mod values;
 mod words;
 

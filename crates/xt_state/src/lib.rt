@@ -4,8 +4,6 @@
 mod arch;
 mod bank;
 mod memory;
-#[cfg(test)]
-mod tests;
 
 pub use arch::Arch;
 pub use memory::NoMemory;

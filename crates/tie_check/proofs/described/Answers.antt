@@ -1,6 +1,6 @@
 use Rattle.std.proofs.Common.{◌≡◌, map, subst, sym, ◌∙◌}
 use Rattle.tie_desc.specs.Invariant.{IsDescription}
-use Rattle.tie_describe.specs.Operations.{operations}
+use Rattle.tie_description_law.specs.tie_describe.Operations.{operations}
 use Rattle.tie_check.proofs.Fit.{fit}
 use Rattle.tie_check.proofs.described.Goals as goal
 

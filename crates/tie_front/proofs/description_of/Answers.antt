@@ -3,8 +3,8 @@ use Rattle.tie_lexer.specs.declared.Token.{Token}
 use Rattle.tie_lexer.specs.Tokens.{AreTokens}
 use Rattle.tie_grammar.specs.declared.tree.Tree.{Tree}
 use Rattle.tie_ast.specs.Parsing.{IsTreeOf}
-use Rattle.tie_rules.specs.RuleBook as book
-use Rattle.tie_rules.specs.Least.{IsFirst}
+use Rattle.tie_check.specs.tie_rules.RuleBook as book
+use Rattle.tie_check.specs.tie_rules.Least.{IsFirst}
 use Rattle.tie_front.specs.declared.refusal.TieRule.{TieRule}
 use Rattle.tie_front.specs.declared.refusal.TieRule.TheVariants.{Rule}
 use Rattle.tie_front.specs.declared.refusal.TieRefusal.{TieRefusal}

@@ -1,5 +1,5 @@
 use Rattle.std.proofs.lemmas.Result.{err_from_is_err_and}
-use Rattle.net_toml.specs.Walk.{plan_in}
+use Rattle.net_desc.specs.net_toml.Walk.{plan_in}
 use Rattle.tie_files.specs.Files.{shelved, Shelved}
 use Rattle.tie_files.proofs.Files.{unread}
 use Rattle.net_load.specs.Texts.{Breaks}

@@ -1,6 +1,6 @@
 use Rattle.std.proofs.Common.{◌≡◌, ◌≤◌, List, ℕ}
-use Rattle.net_parts.specs.Network.{IsNet}
-use Rattle.net_toml.specs.Walk.{source_names}
+use Rattle.net_desc.specs.net_parts.Network.{IsNet}
+use Rattle.net_desc.specs.net_toml.Walk.{source_names}
 use Rattle.tie_files.specs.Files.{shelved}
 use Rattle.net_load.specs.Pieces.{SameAround}
 use Rattle.net_load.proofs.SourceSteps.{AreGiven, net_names}

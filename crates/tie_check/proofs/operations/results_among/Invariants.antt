@@ -1,6 +1,6 @@
 use Rattle.std.proofs.Common.{◌≡◌, map, take}
 use Rattle.std.specs.List.{flat_map}
-use Rattle.tie_describe.specs.Operations.{operation_of}
+use Rattle.tie_description_law.specs.tie_describe.Operations.{operation_of}
 use Rattle.tie_check.specs.Checked.{AllResults}
 use Rattle.tie_check.proofs.operations.results_among.Given as goal
 

@@ -1,6 +1,6 @@
 use Rattle.std.proofs.Common.{◌≡◌, ℕ, ◌-◌, Bool}
 use Rattle.std.specs.Prelude.{slice_get}
-use Rattle.xt_exec.specs.Queues.{mask}
+use Rattle.net_ref.specs.xt_exec.Queues.{mask}
 use Rattle.net_ref.specs.Workers.{input_queue}
 use Rattle.tie_report.specs.Standing.{is_empty}
 use Rattle.tie_report.proofs.Found.{found}

@@ -1,5 +1,5 @@
 use Rattle.std.proofs.lemmas.Result.{err_from_is_err_and}
-use Rattle.tie_files.specs.Files.{shelved, Shelved}
+use Rattle.load_law.specs.tie_files.Files.{shelved, Shelved}
 use Rattle.tie_top.proofs.CommandSteps.{check_err}
 use Rattle.tie_top.proofs.commands.check.Goals as goal
 

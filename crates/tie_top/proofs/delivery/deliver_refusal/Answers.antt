@@ -1,6 +1,6 @@
 use Rattle.std.proofs.Common.{List, ℕ, Option, [], refl, subst, inr}
 use Rattle.tie_io.specs.Writing.{GrewWithin}
-use Rattle.tie_files.specs.declared.refusal.Refusal.TheVariants as refusals
+use Rattle.load_law.specs.tie_files.declared.refusal.Refusal.TheVariants as refusals
 use Rattle.tie_top.specs.Printing as printing
 use Rattle.tie_top.proofs.Writing.{Grew-nothing}
 use Rattle.tie_top.proofs.delivery.deliver_refusal.Goals as goal

@@ -1,6 +1,6 @@
 use Rattle.std.proofs.lemmas.Result.{err_from_is_err_and}
-use Rattle.tie_files.specs.Files.{shelved, Shelved}
-use Rattle.tie_files.proofs.Steps.{whole, early, late, Within}
+use Rattle.load_law.specs.tie_files.Files.{shelved, Shelved}
+use Rattle.load_law.proofs.tie_files_proofs.Steps.{whole, early, late, Within}
 use Rattle.tie_top.proofs.CommandSteps.{first_err, second_err, exec_tie_ok}
 use Rattle.tie_top.proofs.networks.exec_tie.Goals as goal
 

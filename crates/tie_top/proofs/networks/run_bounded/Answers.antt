@@ -1,4 +1,4 @@
-use Rattle.net_ref.specs.Reference.{IsStrict}
+use Rattle.tie_report.specs.net_ref.Reference.{IsStrict}
 use Rattle.tie_top.proofs.CommandSteps.{at_stop}
 use Rattle.tie_top.proofs.networks.run_bounded.Goals as goal
 

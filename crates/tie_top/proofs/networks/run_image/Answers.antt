@@ -1,4 +1,4 @@
-use Rattle.net_desc.specs.Workers.{Loaded}
+use Rattle.load_law.specs.net_desc.Workers.{Loaded}
 use Rattle.tie_top.proofs.CommandSteps.{of_alone}
 use Rattle.tie_top.proofs.networks.run_image.Goals as goal
 

@@ -1,4 +1,4 @@
-use Rattle.net_ref.specs.Reference.{IsReference}
+use Rattle.tie_report.specs.net_ref.Reference.{IsReference}
 use Rattle.tie_top.proofs.CommandSteps.{at_stop}
 use Rattle.tie_top.proofs.networks.run_unbounded.Goals as goal
 

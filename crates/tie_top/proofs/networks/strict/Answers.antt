@@ -1,5 +1,5 @@
 use Rattle.std.proofs.lemmas.Result.{err_from_is_err_and}
-use Rattle.tie_files.specs.Files.{shelved, Shelved}
+use Rattle.load_law.specs.tie_files.Files.{shelved, Shelved}
 use Rattle.tie_top.proofs.CommandSteps.{strict_err, strict_ok}
 use Rattle.tie_top.proofs.networks.strict.Goals as goal
 

@@ -1,7 +1,0 @@
-use Rattle.tie_describe.specs.Described.{ops}
-use Rattle.tie_facts.proofs.Kept.{kept}
-use Rattle.tie_facts.proofs.Whole.{is_description}
-use Rattle.tie_facts.proofs.facts.Goals as goal
-
-pub returns : goal.returns
-returns c = λ t results none text fit. is_description t results (kept t none) text fit

@@ -1,5 +1,0 @@
-use Rattle.std.proofs.Common.{length, ◌≡◌}
-use Rattle.tie_flix.proofs.tests.parts.Given as goal
-
-abbrev pub invariant-loop-part : goal.invariant-loop-part
-invariant-loop-part l = length l.parts.items ≡ l.part-index

@@ -1,8 +1,0 @@
-use Rattle.tie_shape.proofs.Words.{words, text}
-use Rattle.tie_shape.proofs.read_trees.Goals as goal
-
-pub returns-clause-text : goal.returns-clause-text
-returns-clause-text c = text
-
-pub returns-clause-words : goal.returns-clause-words
-returns-clause-words c = words

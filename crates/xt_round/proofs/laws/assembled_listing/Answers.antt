@@ -1,6 +1,0 @@
-use Rattle.xt_round.proofs.Round.{same_bytes}
-use Rattle.xt_round.proofs.laws.assembled_listing.Goals as goal
-
-pub returns : goal.returns
-returns c = λ d bytes text image is words small l h.
-    same_bytes (record { again = c.named_again.ensures; same = c.rebuilt.ensures.same; fit = c.rebuilt.ensures.fit }) d is words bytes text image small l h

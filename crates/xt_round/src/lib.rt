@@ -1,8 +1,0 @@
-//! The law that assembling a listing gives the bytes that were listed.
-#![tactic(auto)]
-
-mod laws;
-#[cfg(test)]
-mod tests;
-
-pub use laws::{assembled_listing, assembled_listing_of, has_words};

@@ -8,7 +8,7 @@ use Rattle.tie_grammar.specs.declared.tree.Operation.{Operation}
 use Rattle.tie_grammar.specs.declared.tree.Decl.{Decl}
 use Rattle.tie_grammar.specs.declared.tree.Decl.TheVariants as d
 use Rattle.tie_grammar.specs.declared.tree.Tree.{Tree}
-use Rattle.tie_sizes_law.specs.tie_results.Results.{AreResults}
+use Rattle.tie_results.specs.Results.{AreResults}
 use Rattle.tie_description_law.specs.tie_describe.Operations.{operation_of}
 use Rattle.tie_description_law.specs.Fits.{FitOperations}
 use Rattle.tie_check.specs.Checked.{AllResults}

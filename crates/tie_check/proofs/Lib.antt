@@ -1,2 +1,2 @@
 mod Fit
-pub use Rattle.tie_sizes_law.proofs.tie_rules_proofs as tie_rules_proofs
+pub use Rattle.tie_rules.proofs as tie_rules_proofs

@@ -4,9 +4,9 @@ use Rattle.tie_expr.specs.declared.node.Node.{Node}
 use Rattle.tie_grammar.specs.declared.tree.Operation.{Operation}
 use Rattle.tie_grammar.specs.declared.tree.Tree.{Tree}
 use Rattle.tie_desc.specs.Description.{Description}
-use Rattle.tie_sizes_law.specs.tie_rules.Least.{NoneBroken}
-use Rattle.tie_sizes_law.specs.tie_rules.RuleBook as book
-use Rattle.tie_sizes_law.specs.tie_results.Results.{AreResults}
+use Rattle.tie_rules.specs.Least.{NoneBroken}
+use Rattle.tie_rules.specs.RuleBook as book
+use Rattle.tie_results.specs.Results.{AreResults}
 use Rattle.tie_description_law.specs.tie_describe.Operations.{operations}
 use Rattle.tie_description_law.specs.tie_describe.Described.{described}
 

@@ -5,8 +5,8 @@
 #![tactic(auto)]
 
 ghost use Rattle.std.specs.Prelude.{◌≡◌, ℕ, IfOk, OnOk, Err};
-ghost use Rattle.tie_sizes_law.specs.tie_rules.RuleBook as book;
-ghost use Rattle.tie_sizes_law.specs.tie_rules.Least.{IsFirst, NoneBroken};
+ghost use Rattle.tie_rules.specs.RuleBook as book;
+ghost use Rattle.tie_rules.specs.Least.{IsFirst, NoneBroken};
 ghost use Rattle.tie_description_law.specs.tie_tree_law.Shape.{IsRead};
 ghost use Rattle.tie_check.specs.Checked.{Accepted};
 
@@ -22,9 +22,9 @@ use tie_description_law::facts;
 pub use tie_description_law::{tie_describe, tie_tree_law};
 use tie_grammar::tree::Tree;
 use tie_results::{NoMemory, functions_of};
+pub use tie_rules;
 use tie_rules::{RuleRefusal, judge};
-pub use tie_sizes_law::tie_rules;
-use tie_sizes_law::{sound_operation, sound_text, tie_results};
+use tie_sizes_law::{sound_operation, sound_text};
 use tie_tree_law::read_trees;
 
 /// The description of a text that breaks no rule.

@@ -4,8 +4,8 @@ ghost use Rattle.std.specs.Prelude.{◌≡◌, ℕ, [], IfOk, IfSome, IfNone, So
 ghost use Rattle.std.specs.List.{flat_map};
 ghost use Rattle.tie_grammar.specs.declared.tree.Operation.{Operation};
 ghost use Rattle.tie_grammar.specs.declared.tree.Decl.TheVariants as d;
-ghost use Rattle.tie_sizes_law.specs.tie_results.Sound.{SoundText, SoundOperation};
-ghost use Rattle.tie_sizes_law.specs.tie_results.Translated.{AreFunctions};
+ghost use Rattle.tie_results.specs.Sound.{SoundText, SoundOperation};
+ghost use Rattle.tie_results.specs.Translated.{AreFunctions};
 ghost use Rattle.tie_description_law.specs.tie_describe.Operations.{operation_of, operations};
 ghost use Rattle.tie_check.specs.Checked.{AllResults};
 
@@ -13,7 +13,6 @@ use std::alloc::Global;
 use tie_expr::Expr;
 use tie_grammar::tree::{Decl, Operation, Tree};
 use tie_results::{Functions, NoMemory, results};
-use tie_sizes_law::tie_results;
 
 /// The operation that a declaration declares.
 fn operation_in(declaration: &Decl) -> Option<&Operation>

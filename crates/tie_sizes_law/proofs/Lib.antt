@@ -13,4 +13,3 @@ pub mod First
 pub mod Functions
 pub mod Text
 pub mod Rules
-pub use Rattle.tie_rules.proofs as tie_rules_proofs

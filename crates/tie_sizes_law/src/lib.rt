@@ -12,9 +12,6 @@ ghost use Rattle.tie_rules.specs.Least.{NoneBroken};
 ghost use Rattle.tie_rules.specs.RuleBook as book;
 ghost use Rattle.tie_sizes_law.specs.Declared.{IsOperationOf};
 
-pub use tie_results;
-pub use tie_rules;
-
 /// The tables and functions of a text that breaks no rule. Every expression that a function sets, and each part of one, has
 /// a size of 1 to 128 bits, and so has every name that it sees; no two functions have one name.
 pub fn sound_text()

@@ -1,6 +1,6 @@
 use Rattle.std.proofs.Common.{◌≡◌, ℕ, List, Result, Ok, Err, subst, refl}
-use Rattle.tie_sizes_law.specs.tie_rules.RuleBook as book
-use Rattle.tie_sizes_law.specs.tie_rules.Least.{IsFirst}
+use Rattle.tie_rules.specs.RuleBook as book
+use Rattle.tie_rules.specs.Least.{IsFirst}
 use Rattle.tie_check.specs.declared.refusal.CheckRefusal.{CheckRefusal}
 use Rattle.tie_check.specs.declared.refusal.CheckRefusal.TheVariants.{Rule}
 use Rattle.tie_check.proofs.judged.Goals as goal

@@ -19,6 +19,13 @@ TOP = pathlib.Path(__file__).resolve().parent.parent
 LAUNCHER = TOP / "zubghivar"
 HELP = TOP / "tools" / "help"
 
+# A stand-in for rt that says the kit's version and proves nothing: no try of the launcher's words may begin to build the program.
+VERSION = """#!/bin/sh
+[ "$1" = version ] && exec {rt} version
+echo "the program isn't current: rt ci builds it"
+exit 1
+"""
+
 # A stand-in for rt: it proves nothing, and makes a program that prints its words, or fails where a file says so.
 RT = """#!/bin/sh
 [ "$1" = version ] && echo "stand-in" && exit
@@ -52,27 +59,38 @@ def example_of(text):
     return found[1], found[2].split(), [it[2:] for it in found[3].splitlines()]
 
 
-def try_words(tries):
+def tool(room, folder, text):
+    """A folder with a command rt of this text, and the PATH on which it is found first."""
+    tools = room / folder
+    tools.mkdir()
+    (tools / "rt").write_text(text)
+    (tools / "rt").chmod(0o755)
+    return f"{tools}:{os.environ['PATH']}"
+
+
+def try_words(tries, room):
     lines = lambda name: (HELP / f"{name}.txt").read_text().splitlines()
+    how = {"PATH": tool(room, "version", VERSION.format(rt=shutil.which("rt"))), "XDG_CACHE_HOME": str(room / "no_build")}
     tries.run("help", [LAUNCHER, "help"], [*lines("help"), "[status 0]"])
     tries.run("no word", [LAUNCHER], [*(f"! {it}" for it in lines("usage")), "[status 1]"])
     tries.run("help of nothing", [LAUNCHER, "help", "../usage"], ["! zubghivar: there is no command ../usage...", "[status 125]"])
-    commands = re.findall(r"^  zubghivar (\w+) [^.C]*  ", (HELP / "help.txt").read_text(), re.M)
+    commands = re.findall(r"^  zubghivar (?!help )(\w+) ", (HELP / "help.txt").read_text(), re.M)
     for command in commands:
         tries.run(f"help {command}", [LAUNCHER, "help", command], [*lines(command), "[status 0]"])
         if command != "version":
             folder, words, wanted = example_of("\n".join(lines(command)) + "\n")
-            tries.run(f"the example of {command}", [LAUNCHER, *words], [*wanted, "[status 0]"], cwd=TOP / folder)
+            tries.run(f"the example of {command}", [LAUNCHER, *words], [*wanted, "[status 0]"], cwd=TOP / folder, **how)
     newest = re.search(r"^## (\S+ \(\d{4}-\d\d-\d\d\))$", (TOP / "CHANGELOG.md").read_text(), re.M)[1]
-    tries.run("version", [LAUNCHER, "version"], [f"zubghivar {newest}", "proved and built with...", "[status 0]"])
-    tries.run("a word of no command", [LAUNCHER, "fly"], ["! usage: word 0", "[status 1]"])
+    tries.run("version", [LAUNCHER, "version"], [f"zubghivar {newest}", "proved and built with rattle...", "[status 0]"], **how)
+    tries.run("a word of no command", [LAUNCHER, "fly"], ["! usage: word 0", "[status 1]"], **how)
 
 
 def try_places(tries, room):
     bare = {"PATH": "/usr/bin:/bin"}
     (room / "link").symlink_to(LAUNCHER)
     (room / "second").symlink_to("link")
-    tries.run("a link to a link", [room / "second", "exec"], ["! usage: word 1", "[status 1]"], cwd=room)
+    how = {"PATH": f"{room / 'version'}:{os.environ['PATH']}", "XDG_CACHE_HOME": str(room / "no_build")}
+    tries.run("a link to a link", [room / "second", "exec"], ["! usage: word 1", "[status 1]"], cwd=room, **how)
     shutil.copy(LAUNCHER, room / "alone")
     tries.run("no repository", [room / "alone", "help"], ["! zubghivar: there is no repository of zubghivar beside...", "[status 125]"])
     small = small_repository(room)
@@ -94,13 +112,10 @@ def small_repository(room):
 
 
 def try_building(tries, room):
-    top, tools = room / "small", room / "bin"
-    tools.mkdir()
-    (tools / "rt").write_text(RT)
-    (tools / "rt").chmod(0o755)
+    top = room / "small"
     for it in [top, *top.rglob("*")]:
         os.utime(it, (1_000_000_000, 1_000_000_000))
-    how = {"PATH": f"{tools}:{os.environ['PATH']}", "STAND_IN": str(room), "XDG_CACHE_HOME": str(room / "cache")}
+    how = {"PATH": tool(room, "bin", RT), "STAND_IN": str(room), "XDG_CACHE_HOME": str(room / "cache")}
     starts = ["! zubghivar: proving the 2 crates of the program, once; log: ...", "! zubghivar: an answer without proof comes sooner: zubghivar --unproved WORDS.."]
     done = [*starts, "! zubghivar: kept 1 of 2: low (0 min)", "! zubghivar: proved 2 of 2: tie_prog (0 min)", "! zubghivar: proved and built"]
     built = ["built with exec a b", *done, "[status 0]"]
@@ -133,8 +148,8 @@ def try_unproved(tries):
 
 def main():
     tries = Tries()
-    try_words(tries)
     with tempfile.TemporaryDirectory() as room:
+        try_words(tries, pathlib.Path(room))
         try_places(tries, pathlib.Path(room))
         try_building(tries, pathlib.Path(room))
     if "--unproved" in sys.argv[1:]:
